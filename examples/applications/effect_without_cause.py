@@ -2,7 +2,7 @@
 """An author posts, a friend who sees the post replies, and whoever sees the reply has to see its post.
 
 The three sessions act by turns. A post or a reply that isn't seen yet is nobody's fault: the friend and the reader look again, 20 times at
-most. usage: effect_without_cause.py HOST:PORT, over the fixture effect_without_cause.sql.
+most. Its fixture is effect_without_cause.sql.
 """
 
 from sessions import connect, main, transaction
@@ -39,8 +39,8 @@ def look(number):
     return work
 
 
-def application(address):
-    author, friend, reader = connect(address), connect(address), connect(address)
+def application():
+    author, friend, reader = connect("author"), connect("friend"), connect("reader")
     for number in range(1, POSTS + 1):
         transaction(author, post(number))
         any(transaction(friend, reply(number)) for _ in range(LOOKS))

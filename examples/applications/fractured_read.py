@@ -2,8 +2,8 @@
 """Clerks move money between two accounts, and an auditor adds them up: every audit has to find 200.
 
 Each transfer is a transaction that takes from one account and gives to the other, and each audit is one that reads both. An audit, or a
-transfer, that sees one account before a transfer and the other one after it has seen half of that transfer. usage:
-fractured_read.py HOST:PORT, over the fixture fractured_read.sql.
+transfer, that sees one account before a transfer and the other one after it has seen half of that transfer. Its fixture is
+fractured_read.sql.
 """
 
 from sessions import main, together, transaction
@@ -32,8 +32,8 @@ def auditor(connection):
     return [transaction(connection, audit) for _ in range(AUDITS)]
 
 
-def application(address):
-    totals = together(address, [clerk(1, 2), clerk(2, 1), auditor])[2]
+def application():
+    totals = together({"clerk-1": clerk(1, 2), "clerk-2": clerk(2, 1), "auditor": auditor})["auditor"]
     if any(total != 200 for total in totals):
         return f"the audits found {totals}"
 

@@ -2,7 +2,7 @@
 """Customers draw numbers from a counter, two each: no two draws may give the same number.
 
 Each draw is a transaction that reads the counter and writes it one higher. Where two transactions read the same value, one of the two updates
-is lost, and two customers have the same number. usage: lost_update.py HOST:PORT, over the fixture lost_update.sql.
+is lost, and two customers have the same number. Its fixture is lost_update.sql.
 """
 
 from sessions import main, together, transaction
@@ -22,8 +22,9 @@ def customer(connection):
     return [transaction(connection, draw) for _ in range(DRAWS)]
 
 
-def application(address):
-    drawn = sorted(number for numbers in together(address, [customer] * CUSTOMERS) for number in numbers)
+def application():
+    customers = {f"customer-{number}": customer for number in range(1, CUSTOMERS + 1)}
+    drawn = sorted(number for numbers in together(customers).values() for number in numbers)
     if drawn != list(range(1, CUSTOMERS * DRAWS + 1)):
         return f"the numbers drawn are {drawn}"
 

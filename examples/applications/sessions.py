@@ -1,8 +1,9 @@
 """What the applications share: sessions, transactions that are tried again where a server asks for that, and the one line at the end.
 
-It needs Debian's python3-psycopg2, which sends simple queries alone.
+The server is that of PGHOST and PGPORT, without them at 127.0.0.1:5433. It needs Debian's python3-psycopg2, which sends simple queries alone.
 """
 
+import os
 import sys
 import threading
 
@@ -12,10 +13,11 @@ import psycopg2
 AGAIN = ("40001", "40P01")
 
 
-def connect(address):
-    """A session of its own at an address, as 127.0.0.1:5433."""
-    host, _, port = address.rpartition(":")
-    return psycopg2.connect(host=host.strip("[]"), port=port, user="application", dbname="application")
+def connect(name):
+    """A session of its own, with a name of its own."""
+    at = {"host": os.environ.get("PGHOST", "127.0.0.1"), "port": os.environ.get("PGPORT", "5433")}
+    as_whom = {"user": os.environ.get("PGUSER", "application"), "dbname": os.environ.get("PGDATABASE", "application")}
+    return psycopg2.connect(**at, **as_whom, application_name=name)
 
 
 def transaction(connection, work):
@@ -30,20 +32,20 @@ def transaction(connection, work):
     raise RuntimeError("a hundred tries were refused")
 
 
-def together(address, sessions):
-    """Runs each of these functions in a thread with a session of its own, all at once, and gives the list of what they gave."""
-    given = [None] * len(sessions)
+def together(sessions):
+    """Runs each of these functions, by name, in a thread with a session of its own, all at once, and gives what they gave, by name."""
+    given = {}
     faults = []
 
-    def run(place, session):
+    def run(name, session):
         try:
-            connection = connect(address)
-            given[place] = session(connection)
+            connection = connect(name)
+            given[name] = session(connection)
             connection.close()
         except Exception as fault:
             faults.append(fault)
 
-    threads = [threading.Thread(target=run, args=pair) for pair in enumerate(sessions)]
+    threads = [threading.Thread(target=run, args=pair) for pair in sessions.items()]
     for thread in threads:
         thread.start()
     for thread in threads:
@@ -54,12 +56,9 @@ def together(address, sessions):
 
 
 def main(application):
-    """Runs application(address), which says how its assertion broke, or None. The status is 0 where it held, 1 where it broke, else 2."""
-    if len(sys.argv) != 2 or ":" not in sys.argv[1]:
-        print(f"usage: {sys.argv[0]} HOST:PORT", file=sys.stderr)
-        sys.exit(2)
+    """Runs the application, which says how its assertion broke, or None. The status is 0 where it held, 1 where it broke, else 2."""
     try:
-        broke = application(sys.argv[1])
+        broke = application()
     except Exception as fault:
         print(f"{sys.argv[0]}: {fault!r}", file=sys.stderr)
         sys.exit(2)

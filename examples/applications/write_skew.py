@@ -2,7 +2,7 @@
 """Two doctors are on call, and each asks to leave: one of them has to stay.
 
 Each request is a transaction that counts who is on call, and takes its own doctor off where that leaves another one. The two transactions
-write different rows, so neither overwrites the other. usage: write_skew.py HOST:PORT, over the fixture write_skew.sql.
+write different rows, so neither overwrites the other. Its fixture is write_skew.sql.
 """
 
 from sessions import main, together, transaction
@@ -19,8 +19,8 @@ def request(doctor):
     return lambda connection: transaction(connection, leave)
 
 
-def application(address):
-    if all(together(address, [request(1), request(2)])):
+def application():
+    if all(together({"doctor-1": request(1), "doctor-2": request(2)}).values()):
         return "both doctors were allowed to leave"
 
 

@@ -1,14 +1,15 @@
 // Steps of several sessions, one after another, in one store.
 ghost use Rattle.std.specs.Prelude.{◌≡◌, ◌↔◌, IsTrue};
-ghost use Rattle.history_core.specs.Book.{IsIdle, IsInTransaction, HasTable};
+ghost use Rattle.history_book.specs.Book.{IsIdle, IsInTransaction, HasTable};
 ghost use Rattle.history_core.specs.Events.{table_of as table_in};
 ghost use Rattle.history_core.specs.Initial.{IsStorable};
 
 use cell_base::{Cell, Key, Level, Value};
 use created_tables::table_of;
 use held_values::{beside, kept, let_go, without};
-use history_core::{Book, BookFault, History, InitialState};
-use seat_samples::{Stop, busy_seat, idle_seat, misplaced, open_next, with_table};
+use history_book::Book;
+use history_core::{BookFault, History, InitialState};
+use seat_samples::{Stop, busy_seat, idle_seat, misplaced, open_next, touch_by, with_table};
 use std::alloc::Global;
 use valid_writes::{SeatBook, Store};
 
@@ -195,13 +196,10 @@ fn read(book: &mut SeatBook, spot: Spot, word: u32) -> Result<(), Stop>
 fn read_cell(book: &mut SeatBook, cell: &Cell, word: u32) -> Result<(), Stop>
     requires { IsInTransaction book.old.state }
 {
-    if book.wrote(cell) {
-        return Err(misplaced(book.history()));
-    }
     if !has_table(book, table(cell)) {
         return Err(misplaced(book.history()));
     }
-    told(let_go(book.read(cell, word)))
+    told(let_go(touch_by(book, cell, word)))
 }
 
 fn write(book: &mut SeatBook, cell: Cell, value: Value) -> Result<(), Stop>

@@ -5,7 +5,7 @@ use Rattle.cell_base.specs.declared.value.Value.{Value}
 use Rattle.history_core.specs.declared.event.Event.TheVariants.{Write}
 use Rattle.history_core.specs.declared.fault.BookFault.TheVariants as faults
 use Rattle.history_core.specs.declared.fault.Limit.{Limit}
-use Rattle.history_core.specs.Book.{Past, pending, session_of, writes_of, IsInTransaction, HasTable, Adds, GoesOn}
+use Rattle.history_book.specs.Book.{Past, pending, session_of, writes_of, IsInTransaction, HasTable, Adds, GoesOn}
 use Rattle.history_core.specs.Events.{table_of}
 use Rattle.history_core.specs.Initial.{IsStorable}
 use Rattle.history_core.specs.Legal.{full_load}

@@ -23,7 +23,7 @@ use crate::stage::MessageStage;
 use crate::want::MessageWant;
 use crate::writes::Written;
 use cell_base::{Level, Memory, SqlState};
-use history_core::Book;
+use history_book::Book;
 use pg_framing::TransactionState;
 use sql_tree::{Statement, Table};
 use statement_course::Demand;

@@ -33,7 +33,7 @@ use crate::turns::{after_sent, answered};
 use crate::want::MessageWant;
 use crate::writes::{WriteStep, Written, ask_write};
 use cell_base::{Level, Memory, SqlState};
-use history_core::Book;
+use history_book::Book;
 use outcome_replies::RowDescription;
 use pg_framing::TransactionState;
 use sql_tree::{Statement, Table};

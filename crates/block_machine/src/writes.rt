@@ -24,7 +24,7 @@ use crate::stage::{MessageStage, Run};
 use crate::step::{MessageStep, at_rest, fail, or_short};
 use cell_base::{Cell, Value};
 use cell_compile::Plan;
-use history_core::Book;
+use history_book::Book;
 use std::alloc::Global;
 
 /// A write that was asked of a book.

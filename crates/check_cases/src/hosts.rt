@@ -1,13 +1,15 @@
-// The command in a host in memory: what it prints, and its status.
+// The commands in a host in memory: what they print, and their statuses.
 ghost use Rattle.std.specs.Prelude.{◌≡◌, ◌<◌, IfOk};
 ghost use Rattle.link_traits.specs.Host.{objects_out};
 ghost use Rattle.link_traits.specs.Hosts.{mem_hosted};
 
 use cell_base::{Items, Memory, Text};
-use check_command::check_file;
+use check_command::{check_file, check_file_wide, judge_file};
 use held_values::{both, kept, without};
+use host_calls::Status;
 use link_traits::{HostFile, MemHost, MemPlan, MemReturned, MemSink};
 use std::alloc::Global;
+use std::thread::Threads;
 
 /// What is planned to fail.
 #[derive(Clone, Copy, Debug, PartialEq, Eq)]
@@ -66,42 +68,126 @@ fn host(alloc: Global, log: &[u8], fails: Fails) -> Result<MemHost, Memory>
     Ok(MemHost::new(alloc, None, files, out, calls, opened, made))
 }
 
-// Whether `check PATH` ends with this status, and has printed this line.
-fn ends(
+/// The command that looks at the log.
+#[derive(Clone, Copy, Debug, PartialEq, Eq)]
+enum Command {
+    Check,
+    WideCheck,
+    Judge,
+}
+
+// What comes of a command.
+fn done<R: Threads>(
+    rt: &R,
+    command: Command,
+    alloc: Global,
+    host: &mut MemHost,
+    path: &Text,
+) -> Status
+    requires { objects_out (mem_hosted host.old) ≡ 0 }
+{
+    match command {
+        Command::Check => check_file(alloc, host, path),
+        Command::WideCheck => check_file_wide(rt, alloc, host, path),
+        Command::Judge => judge_file(alloc, host, path),
+    }
+}
+
+// Whether the command over the path ends with this status, and has printed these lines.
+fn ends<R: Threads>(
+    rt: &R,
+    command: Command,
     host: &mut MemHost,
     alloc: Global,
     path: &[u8],
     code: u8,
-    line: &[u8],
+    lines: &[u8],
 ) -> Result<bool, Memory>
     requires { objects_out (mem_hosted host.old) ≡ 0 }
 {
     let path = text(alloc, path)?;
-    let status = check_file(alloc, host, &path);
+    let status = done(rt, command, alloc, host, &path);
     Ok(match host.output() {
-        Some(out) => status.code == code && out.written() == line,
+        Some(out) => status.code == code && out.written() == lines,
         None => false,
     })
 }
 
-// Whether the check of the log prints this line, and the file came back.
-fn prints_line(host: &mut MemHost, alloc: Global, code: u8, line: &[u8]) -> Result<bool, Memory>
+// Whether the command over the log prints these lines, and the file came back.
+fn prints_lines<R: Threads>(
+    rt: &R,
+    command: Command,
+    host: &mut MemHost,
+    alloc: Global,
+    code: u8,
+    lines: &[u8],
+) -> Result<bool, Memory>
     requires { objects_out (mem_hosted host.old) ≡ 0 }
 {
-    let right = ends(host, alloc, b"log", code, line)?;
+    let right = ends(rt, command, host, alloc, b"log", code, lines)?;
     Ok(right && matches!(host.back(), [MemReturned::File(_)]))
 }
 
-/// Whether the check of this log prints this line, and the file came back.
-pub fn prints(alloc: Global, log: &[u8], code: u8, line: &[u8]) -> Result<bool, Memory> {
+// Whether the command over this log prints these lines, and the file came back.
+fn prints_in<R: Threads>(
+    rt: &R,
+    command: Command,
+    alloc: Global,
+    log: &[u8],
+    code: u8,
+    lines: &[u8],
+) -> Result<bool, Memory> {
     let mut host = host(alloc, log, Fails::Nothing)?;
-    let right = prints_line(&mut host, alloc, code, line);
+    let right = prints_lines(rt, command, &mut host, alloc, code, lines);
     without(host, right)
 }
 
-/// Whether the check of a path ends with this status where this fails, and prints nothing.
-pub fn ends_with(alloc: Global, path: &[u8], fails: Fails, code: u8) -> Result<bool, Memory> {
+/// Whether the check of this log prints this line, and the file came back: in one thread, and in several.
+pub fn prints<R: Threads>(
+    rt: &R,
+    alloc: Global,
+    log: &[u8],
+    code: u8,
+    lines: &[u8],
+) -> Result<bool, Memory> {
+    let right = prints_in(rt, Command::Check, alloc, log, code, lines)?;
+    Ok(right && prints_in(rt, Command::WideCheck, alloc, log, code, lines)?)
+}
+
+/// Whether the judge of this log prints these lines, and the file came back.
+pub fn judges<R: Threads>(
+    rt: &R,
+    alloc: Global,
+    log: &[u8],
+    code: u8,
+    lines: &[u8],
+) -> Result<bool, Memory> {
+    prints_in(rt, Command::Judge, alloc, log, code, lines)
+}
+
+// Whether the command over a path ends with this status where this fails, and prints nothing.
+fn ends_in<R: Threads>(
+    rt: &R,
+    command: Command,
+    alloc: Global,
+    path: &[u8],
+    fails: Fails,
+    code: u8,
+) -> Result<bool, Memory> {
     let mut host = host(alloc, b"monkey-log 2 rc\norder 0\nend\n", fails)?;
-    let right = ends(&mut host, alloc, path, code, b"");
+    let right = ends(rt, command, &mut host, alloc, path, code, b"");
     without(host, right)
+}
+
+/// Whether the check of a path ends with this status where this fails, and prints nothing: in one thread, and in several; and the judge likewise.
+pub fn ends_with<R: Threads>(
+    rt: &R,
+    alloc: Global,
+    path: &[u8],
+    fails: Fails,
+    code: u8,
+) -> Result<bool, Memory> {
+    let right = ends_in(rt, Command::Check, alloc, path, fails, code)?;
+    let wide = ends_in(rt, Command::WideCheck, alloc, path, fails, code)?;
+    Ok(right && wide && ends_in(rt, Command::Judge, alloc, path, fails, code)?)
 }

@@ -59,10 +59,10 @@ end
 #[test]
 fn says_that_a_log_is_right(rt: HostRuntime) -> Result<(), Fail> {
     let alloc = rt.alloc();
-    assert!(rt; prints(alloc, b"monkey-log 2 cc\norder 0\nend\n", 0, b"ok\n")?);
-    assert!(rt; prints(alloc, STALE.as_bytes(), 0, b"ok\n")?);
-    assert!(rt; prints(alloc, HIGHER.as_bytes(), 0, b"ok\n")?);
-    assert!(rt; prints(alloc, PARTLY_STALE.as_bytes(), 0, b"ok\n")?);
+    assert!(rt; prints(&rt, alloc, b"monkey-log 2 cc\norder 0\nend\n", 0, b"ok\n")?);
+    assert!(rt; prints(&rt, alloc, STALE.as_bytes(), 0, b"ok\n")?);
+    assert!(rt; prints(&rt, alloc, HIGHER.as_bytes(), 0, b"ok\n")?);
+    assert!(rt; prints(&rt, alloc, PARTLY_STALE.as_bytes(), 0, b"ok\n")?);
     Ok(())
 }
 
@@ -116,7 +116,7 @@ const WRONG: &[(&str, &str)] = &[
 #[test]
 fn says_what_is_wrong(rt: HostRuntime) -> Result<(), Fail> {
     for (log, line) in WRONG {
-        assert!(rt; prints(rt.alloc(), log.as_bytes(), 1, line.as_bytes())?);
+        assert!(rt; prints(&rt, rt.alloc(), log.as_bytes(), 1, line.as_bytes())?);
     }
     Ok(())
 }
@@ -158,9 +158,18 @@ end
 #[test]
 fn judges_the_order(rt: HostRuntime) -> Result<(), Fail> {
     let alloc = rt.alloc();
-    assert!(rt; prints(alloc, EARLY.as_bytes(), 1, b"breach event 8 read 1 2\n")?);
     assert!(rt;
         prints(
+            &rt,
+            alloc,
+            EARLY.as_bytes(),
+            1,
+            b"breach event 8 read 1 2\n"
+        )?
+    );
+    assert!(rt;
+        prints(
+            &rt,
             alloc,
             FRACTURED.as_bytes(),
             1,
@@ -181,7 +190,7 @@ const FAILED: &[(&[u8], Fails, u8)] = &[
 #[test]
 fn tells_what_fails(rt: HostRuntime) -> Result<(), Fail> {
     for (path, fails, code) in FAILED {
-        assert!(rt; ends_with(rt.alloc(), path, *fails, *code)?);
+        assert!(rt; ends_with(&rt, rt.alloc(), path, *fails, *code)?);
     }
     Ok(())
 }

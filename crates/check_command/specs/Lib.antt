@@ -1,3 +1,6 @@
 pub mod Lines
 pub mod Verdict
 pub mod Checks
+pub mod JudgeLines
+pub mod JudgeVerdict
+pub mod Judges

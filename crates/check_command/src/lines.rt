@@ -9,7 +9,7 @@ use history_log::{LogFault, put, put_cell, put_number};
 use std::alloc::Global;
 
 /// Writes a number after a blank.
-fn put_and_number(out: &mut Vec<u8>, n: u32) -> Result<(), Memory>
+pub fn put_and_number(out: &mut Vec<u8>, n: u32) -> Result<(), Memory>
     ensures { OnOk result (out.new.items ≡ out.old.items ++ and_number n) }
 {
     put(out, b" ")?;

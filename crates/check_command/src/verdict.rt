@@ -12,9 +12,10 @@ use crate::lines::{breach_line, fault_line, ok_line};
 use cell_base::Memory;
 use cell_writers::CellNotes;
 use held_values::without;
-use history_check::{Breach, CheckFault, check, check_order};
+use history_check::{Breach, CheckFault, check_by, check_order_by};
 use history_log::{LogFault, Trace, read};
 use host_calls::Status;
+use order_test::EventWalk;
 use right_logs::{Glimpse, glimpse_of};
 use std::alloc::Global;
 
@@ -27,55 +28,71 @@ pub struct Verdict {
     pub status: Status,
 }
 
-const RIGHT: Status = Status { code: 0 };
+pub const RIGHT: Status = Status { code: 0 };
 
-const WRONG: Status = Status { code: 1 };
+pub const WRONG: Status = Status { code: 1 };
 
-/// Whether the bytes are the log of a history without a breach, and else what is wrong with them.
-pub fn verdict_of(alloc: Global, bytes: &[u8]) -> Result<Verdict, Memory>
+/// Whether the bytes are the log of a history without a breach, and else what is wrong with them. Where their order isn't clear the walk goes over
+/// the events first.
+pub fn verdict_of<W: EventWalk>(alloc: Global, walk: &W, bytes: &[u8]) -> Result<Verdict, Memory>
     ensures { IfOk result (λ verdict. IsVerdict bytes.now verdict.line.items verdict.status.code) }
 {
     match glimpse_of(alloc, bytes) {
         Ok(Glimpse::Right) => right_verdict(alloc, bytes),
         Ok(Glimpse::Judged(cells)) => {
-            let verdict = judged_verdict(alloc, bytes, &cells);
+            let verdict = judged_verdict(alloc, walk, bytes, &cells);
             without(cells, verdict)
         }
-        Ok(Glimpse::Unclear) => read_verdict(alloc, bytes),
+        Ok(Glimpse::Unclear) => read_verdict(alloc, walk, bytes),
         Err(Memory) => Err(Memory),
     }
 }
 
 /// The same, where the bytes are the log of right events, of whose cells these are the numbers and the notes.
-fn judged_verdict(alloc: Global, bytes: &[u8], cells: &CellNotes) -> Result<Verdict, Memory>
+fn judged_verdict<W: EventWalk>(
+    alloc: Global,
+    walk: &W,
+    bytes: &[u8],
+    cells: &CellNotes,
+) -> Result<Verdict, Memory>
     requires { IsJudgedLog bytes.now cells.now }
     ensures { IfOk result (λ verdict. IsVerdict bytes.now verdict.line.items verdict.status.code) }
 {
     match read(alloc, bytes) {
-        Ok(trace) => verdict_by(alloc, bytes, &trace, check_order(alloc, cells, &trace)),
+        Ok(trace) => verdict_by(
+            alloc,
+            bytes,
+            &trace,
+            check_order_by(alloc, walk, cells, &trace),
+        ),
         Err(LogFault::Memory) => Err(Memory),
         Err(fault) => fault_verdict(alloc, bytes, fault),
     }
 }
 
 /// The same, by all that the bytes say.
-fn read_verdict(alloc: Global, bytes: &[u8]) -> Result<Verdict, Memory>
+fn read_verdict<W: EventWalk>(alloc: Global, walk: &W, bytes: &[u8]) -> Result<Verdict, Memory>
     ensures { IfOk result (λ verdict. IsVerdict bytes.now verdict.line.items verdict.status.code) }
 {
     match read(alloc, bytes) {
-        Ok(trace) => trace_verdict(alloc, bytes, &trace),
+        Ok(trace) => trace_verdict(alloc, walk, bytes, &trace),
         Err(LogFault::Memory) => Err(Memory),
         Err(fault) => fault_verdict(alloc, bytes, fault),
     }
 }
 
 /// The verdict on a history that was read from the bytes.
-fn trace_verdict(alloc: Global, bytes: &[u8], trace: &Trace) -> Result<Verdict, Memory>
+fn trace_verdict<W: EventWalk>(
+    alloc: Global,
+    walk: &W,
+    bytes: &[u8],
+    trace: &Trace,
+) -> Result<Verdict, Memory>
     requires few { HasFewBytes bytes.now }
     requires log { (version : Version) × IsLog version trace.now bytes.now }
     ensures { IfOk result (λ verdict. IsVerdict bytes.now verdict.line.items verdict.status.code) }
 {
-    verdict_by(alloc, bytes, trace, check(alloc, trace))
+    verdict_by(alloc, bytes, trace, check_by(alloc, walk, trace))
 }
 
 /// The same, by what a check of the history found.

@@ -3,7 +3,7 @@ ghost use Rattle.std.specs.Prelude.{◌≡◌, List, ℕ, drop};
 ghost use Rattle.choice_stream.specs.Choices.{DrawsFirst};
 
 use cell_base::Items;
-use link_traits::Words;
+use history_book::Words;
 use std::marker::Model;
 
 /// The words of a list, in order, and then 0 for ever.

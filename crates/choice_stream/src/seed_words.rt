@@ -2,7 +2,7 @@
 ghost use Rattle.std.specs.Prelude.{◌≡◌};
 ghost use Rattle.choice_stream.specs.Seeds.{Draws, stream_front};
 
-use link_traits::Words;
+use history_book::Words;
 use rand_chacha::ChaCha20Rng;
 use rand_core::SeedableRng;
 use rand_core::utils::NextWord;

@@ -1,6 +1,9 @@
 // A command line, told as one line of text.
 use cell_base::{Level, Memory, Text};
-use command_line::{CommandLine, PipeCommand, Progress, ServeOptions, SimPlan, read_command};
+use command_help::complaint;
+use command_line::{
+    CommandLine, Name, PipeCommand, Progress, ServeOptions, SimPlan, Topic, read_command,
+};
 use std::alloc::{AllocError, Global};
 
 fn level_word(level: Level) -> &'static str {
@@ -59,12 +62,30 @@ fn push_sim(alloc: Global, out: &mut String, plan: &SimPlan) -> Result<(), Alloc
     push_path(out, " log ", &plan.log)
 }
 
+fn push_check(out: &mut String, path: &Text, wide: bool) -> Result<(), AllocError> {
+    out.push_str(if wide { "wide " } else { "check " })?;
+    out.push_str(path.as_str())
+}
+
+fn topic_word(topic: Topic) -> &'static str {
+    match topic {
+        Topic::Program => "the program",
+        Topic::Command(Name::Pipe) => "pipe",
+        Topic::Command(Name::Serve) => "serve",
+        Topic::Command(Name::Check) => "check",
+        Topic::Command(Name::Judge) => "judge",
+        Topic::Command(Name::Sim) => "sim",
+        Topic::Command(Name::Stop) => "stop",
+    }
+}
+
 fn push_line(alloc: Global, out: &mut String, line: &CommandLine) -> Result<(), AllocError> {
     match line {
         CommandLine::Pipe(pipe) => push_pipe(alloc, out, pipe),
         CommandLine::Serve(options) => push_serve(alloc, out, options),
-        CommandLine::Check { path } => {
-            out.push_str("check ")?;
+        CommandLine::Check { path, wide } => push_check(out, path, *wide),
+        CommandLine::Judge { path } => {
+            out.push_str("judge ")?;
             out.push_str(path.as_str())
         }
         CommandLine::Sim(plan) => push_sim(alloc, out, plan),
@@ -72,6 +93,11 @@ fn push_line(alloc: Global, out: &mut String, line: &CommandLine) -> Result<(), 
             out.push_str("stop ")?;
             out.push_str(address.as_str())
         }
+        CommandLine::Help(topic) => {
+            out.push_str("help about ")?;
+            out.push_str(topic_word(*topic))
+        }
+        CommandLine::Version => out.push_str("version"),
         CommandLine::Unknown => out.push_str("unknown"),
     }
 }
@@ -125,4 +151,31 @@ pub fn are_unknown(alloc: Global, cases: &[&str]) -> Result<bool, Memory> {
         }
     }
     Ok(true)
+}
+
+// Whether this is said of the words.
+fn complains(alloc: Global, words: &[Text], said: &str) -> Result<bool, Memory> {
+    let line = complaint(alloc, words)?;
+    Ok(line.as_str() == said)
+}
+
+/// Whether this is said where there are no words.
+pub fn complains_of_none(alloc: Global, said: &str) -> Result<bool, Memory> {
+    complains(alloc, &[], said)
+}
+
+// Whether the words with bars are no command, and this is said of them.
+fn is_refused(alloc: Global, words: &str, said: &str) -> Result<bool, Memory> {
+    let texts = texts(alloc, words)?;
+    Ok(is(alloc, texts.as_slice(), "unknown")? && complains(alloc, texts.as_slice(), said)?)
+}
+
+/// The first of these words with bars that are a command, or of which something else is said; or empty words.
+pub fn first_unsaid<'a>(alloc: Global, cases: &[(&'a str, &str)]) -> Result<&'a str, Memory> {
+    for case in cases {
+        if !is_refused(alloc, case.0, case.1)? {
+            return Ok(case.0);
+        }
+    }
+    Ok("")
 }

@@ -4,9 +4,9 @@ use Rattle.clap.specs.Words.{App, built, is_simple, is_simple_and_free}
 use Rattle.clap.specs.Faults.{is_free_app}
 use Rattle.clap.proofs.WalkLemmas.{both}
 use Rattle.clap.proofs.OnLiterals.{clap_on_literals}
-use Rattle.command_line.specs.Arguments.{arguments_of, pipe_arguments, serve_arguments, check_arguments, sim_arguments, stop_arguments}
+use Rattle.command_line.specs.Arguments.{arguments_of, pipe_arguments, serve_arguments, check_arguments, judge_arguments, sim_arguments, stop_arguments}
 use Rattle.command_line.specs.declared.arguments.Name.{Name}
-use Rattle.command_line.specs.declared.arguments.Name.TheVariants.{Pipe, Serve, Check, Sim, Stop}
+use Rattle.command_line.specs.declared.arguments.Name.TheVariants.{Pipe, Serve, Check, Judge, Sim, Stop}
 
 pipe_free : is_simple_and_free pipe_arguments ≡ true
 unfolding clap_on_literals pipe_arguments
@@ -20,6 +20,10 @@ check_free : is_simple_and_free check_arguments ≡ true
 unfolding clap_on_literals check_arguments
 check_free = refl
 
+judge_free : is_simple_and_free judge_arguments ≡ true
+unfolding clap_on_literals judge_arguments
+judge_free = refl
+
 sim_free : is_simple_and_free sim_arguments ≡ true
 unfolding clap_on_literals sim_arguments
 sim_free = refl
@@ -32,6 +36,7 @@ pub arguments_free : (name : Name) → is_simple_and_free (arguments_of name) �
 arguments_free Pipe = pipe_free
 arguments_free Serve = serve_free
 arguments_free Check = check_free
+arguments_free Judge = judge_free
 arguments_free Sim = sim_free
 arguments_free Stop = stop_free
 

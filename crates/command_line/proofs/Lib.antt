@@ -3,6 +3,7 @@ pub mod Commas
 pub mod Words
 pub mod Free
 pub mod Names
+pub mod Asking
 pub mod One
 pub mod Plain
 pub mod OneCommand

@@ -4,22 +4,24 @@ use Rattle.std.specs.Prelude.{Option, Some, None, IfSome, IsNone, if◌then◌el
 use Rattle.cell_base.specs.declared.memory.Memory.{Memory}
 use Rattle.clap.specs.Words.{App, Text, Row, fault_of, matches_of}
 use Rattle.command_line.specs.Arguments.{word_of, arguments_of}
-use Rattle.command_line.specs.Commands.{Says, IsNoCommand}
+use Rattle.command_line.specs.Commands.{Says, AsksAboutProgram, IsNoCommand}
 use Rattle.command_line.specs.declared.arguments.Name.{Name}
-use Rattle.command_line.specs.declared.arguments.Name.TheVariants.{Pipe, Serve, Check, Sim, Stop}
+use Rattle.command_line.specs.declared.arguments.Name.TheVariants.{Pipe, Serve, Check, Judge, Sim, Stop}
 
 -- the name by the first two bytes of its word
 abbrev name_by : ℕ → ℕ → Name
-name_by a b = if a == 112 then Pipe else (if a == 99 then Check else (if b == 101 then Serve else (if b == 105 then Sim else Stop)))
+name_by a b =
+    if a == 112 then Pipe else (if a == 99 then Check else (if a == 106 then Judge else (if b == 101 then Serve else (if b == 105 then Sim else Stop))))
 
 name_back : (n : Name) → name_by (slice_index (word_of n) 0) (slice_index (word_of n) 1) ≡ n
 name_back Pipe = refl
 name_back Serve = refl
 name_back Check = refl
+name_back Judge = refl
 name_back Sim = refl
 name_back Stop = refl
 
-word_same : (n m : Name) → word_of n ≡ word_of m → n ≡ m
+pub word_same : (n m : Name) → word_of n ≡ word_of m → n ≡ m
 word_same n m e = sym (name_back n) ∙ ap (λ (w : Text). name_by (slice_index w 0) (slice_index w 1)) e ∙ name_back m
 
 -- words that say something to two commands say it to one
@@ -40,22 +42,24 @@ pub other : (n m : Name) (args : List Text) (s t : List Row) → (n ≡ m → �
 other n m args s t differ p q = differ (name_same n m args s t p q)
 
 -- words to which no command says anything are none
-unsaid : (args : List Text) → ((n : Name) (s : List Row) → ¬ (Says n args s)) → IsNoCommand args
-unsaid args none = record {
+unsaid : (args : List Text) → ¬ (AsksAboutProgram args) → ((n : Name) (s : List Row) → ¬ (Says n args s)) → IsNoCommand args
+unsaid args nothing none = record {
   no_pipe = λ level words h. none Pipe h.0 h.1;
   no_serve = λ options h. none Serve h.0 h.1;
-  no_check = λ path h. none Check h.0 h.1;
+  no_check = λ path wide h. none Check h.0 h.1;
+  no_judge = λ path h. none Judge h.0 h.1;
   no_sim = λ level seed sessions queries log h. none Sim h.0 h.1;
   no_stop = λ address h. none Stop h.0 h.1;
+  asks_nothing = nothing;
 }
 
 -- no name stands first
-pub unnamed : (args : List Text) → ((n : Name) (words : List Text) → ¬ (args ≡ word_of n ∷ words)) → IsNoCommand args
-unnamed args none = unsaid args (λ n s says. none n says.words says.args_are)
+pub unnamed : (args : List Text) → ¬ (AsksAboutProgram args) → ((n : Name) (words : List Text) → ¬ (args ≡ word_of n ∷ words)) → IsNoCommand args
+unnamed args nothing none = unsaid args nothing (λ n s says. none n says.words says.args_are)
 
 -- the words after the name aren't words of its command
-pub refused : (n : Name) (args words : List Text) → args ≡ word_of n ∷ words → ((s : List Row) → ¬ (Says n (word_of n ∷ words) s)) → IsNoCommand args
-refused n args words e none = unsaid args (λ m s says.
+pub refused : (n : Name) (args words : List Text) → ¬ (AsksAboutProgram args) → args ≡ word_of n ∷ words → ((s : List Row) → ¬ (Says n (word_of n ∷ words) s)) → IsNoCommand args
+refused n args words nothing e none = unsaid args nothing (λ m s says.
     let heads : word_of n ∷ words ≡ word_of m ∷ says.words = sym e ∙ says.args_are in
     let first : word_of n ≡ word_of m = cc in
     let same : n ≡ m = word_same n m first in

@@ -1,11 +1,11 @@
 -- What words say of each argument, they say once.
 use Rattle.std.proofs.Common.{◌≡◌, ◌∙◌, ℕ, List, [], ◌∷◌, ap, sym, subst, refl, slice_index}
-use Rattle.std.specs.Prelude.{Option, Some, None, IsSomeAnd, if◌then◌else◌, ◌==◌, codes}
+use Rattle.std.specs.Prelude.{Option, Some, None, IsSomeAnd, Bool, true, false, if◌then◌else◌, ◌==◌, codes}
 use Rattle.cell_base.specs.declared.level.Level.{Level}
 use Rattle.cell_base.specs.declared.level.Level.TheVariants.{Rc, Ra, Cc}
 use Rattle.clap.specs.Words.{Row, first_of}
 use Rattle.command_line.specs.Numbers.{level_word, IsLevelWord, number_of, IsLongWord, IsUpTo, Lists}
-use Rattle.command_line.specs.Commands.{IsOr, IsProgress, GivesPipe, GivesServe, GivesSim}
+use Rattle.command_line.specs.Commands.{IsOr, IsProgress, IsFlag, GivesPipe, GivesServe, GivesSim}
 use Rattle.command_line.specs.declared.pipe.PipeCommand.{PipeCommand}
 use Rattle.command_line.specs.declared.serve.Progress.{Progress}
 use Rattle.command_line.specs.declared.serve.Progress.TheVariants.{Told, Quiet}
@@ -64,6 +64,12 @@ progress_same flag Told Told h k = refl
 progress_same flag Told Quiet h k = absurd (h k)
 progress_same flag Quiet Told h k = absurd (k h)
 progress_same flag Quiet Quiet h k = refl
+
+pub flag_same : (flag : Option (List ℕ)) (a b : Bool) → IsFlag flag a → IsFlag flag b → a ≡ b
+flag_same flag true true h k = refl
+flag_same flag true false h k = absurd (k h)
+flag_same flag false true h k = absurd (h k)
+flag_same flag false false h k = refl
 
 pub pipe_same : (said : List Row) (a b : PipeCommand) → GivesPipe said a.level a.words → GivesPipe said b.level b.words → a ≡ b
 pipe_same said a b p q =

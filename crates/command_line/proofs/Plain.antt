@@ -14,7 +14,7 @@ use Rattle.clap.specs.Simple.{entered}
 use Rattle.clap.specs.Faults.{other_fault, flag_word_fault, bundle_fault, turn_fault, step_fault, walk_fault, entered_fault, settle_fault, defaults_fault, check_fault}
 use Rattle.clap.proofs.OnLiterals.{clap_on_literals}
 use Rattle.command_line.specs.Numbers.{level_word, IsDigit, IsNumber, Lists}
-use Rattle.command_line.specs.Arguments.{pipe_arguments, check_arguments, sim_arguments, stop_arguments}
+use Rattle.command_line.specs.Arguments.{pipe_arguments, check_arguments, judge_arguments, sim_arguments, stop_arguments}
 
 -- the word is no option, no flags and not `--`
 pub record Plain (word : Text) : Type 0 where
@@ -132,6 +132,86 @@ check_taken w1 p1 = ap₂ (faults_by check_app) (check_walk_1 w1 p1) (check_way 
 pub check_path : (w1 : Text) → Plain w1 → first_of (codes "path") (matches_of check_arguments (w1 ∷ [])) ≡ Some w1
 unfolding clap_on_literals check_arguments
 check_path w1 p1 = ap (λ (k : Walk). first_of (codes "path") (finished check_app.top.rules k.held)) (check_walk_1 w1 p1)
+
+-- a flag that isn't there has its default
+pub check_narrow : (w1 : Text) → Plain w1 → first_of (codes "wide") (matches_of check_arguments (w1 ∷ [])) ≡ Some (codes "false")
+unfolding clap_on_literals check_arguments
+check_narrow w1 p1 = ap (λ (k : Walk). first_of (codes "wide") (finished check_app.top.rules k.held)) (check_walk_1 w1 p1)
+
+-- the flag of `check`, and its place
+
+abbrev wide_held : Held
+wide_held = (walked check_app.top.rules [] (at nothing_held 1) (codes "--wide")).held
+
+abbrev wide_stood_1 : Walk
+wide_stood_1 = walked check_app.top.rules [] (at nothing_held 1) (codes "--wide")
+
+wide_walk_1 : wide_stood_1 ≡ at wide_held 1
+unfolding clap_on_literals check_arguments
+wide_walk_1 = refl
+
+abbrev wide_stood_2 : Text → Walk
+wide_stood_2 w2 = walked check_app.top.rules [] wide_stood_1 w2
+
+abbrev wide_held_2 : Text → Held
+wide_held_2 w2 = held_after check_app.top.rules wide_held 1 w2
+
+wide_walk_2 : (w2 : Text) → Plain w2 → wide_stood_2 w2 ≡ at (wide_held_2 w2) 2
+unfolding clap_on_literals check_arguments
+wide_walk_2 w2 p2 = next_walk check_app.top.rules wide_stood_1 wide_held 1 w2 wide_walk_1 p2 refl
+
+wide_turn : turn_fault check_app.top [] (at nothing_held 1) (codes "--wide") ≡ []
+unfolding clap_on_literals check_arguments
+wide_turn = refl
+
+wide_way : (w2 : Text) → Plain w2 → walk_fault check_app.top [] (at nothing_held 1) (codes "--wide" ∷ w2 ∷ []) ≡ []
+unfolding clap_on_literals check_arguments walk_fault
+wide_way w2 p2 =
+    ap₂ or_else wide_turn
+    (next_turn check_app.top wide_stood_1 wide_held 1 w2 [] wide_walk_1 p2 refl
+    (no_turn check_app.top (wide_stood_2 w2)))
+
+pub wide_taken : (w2 : Text) → Plain w2 → fault_of check_arguments (codes "--wide" ∷ w2 ∷ []) ≡ []
+unfolding clap_on_literals check_arguments
+wide_taken w2 p2 = ap₂ (faults_by check_app) (wide_walk_2 w2 p2) (wide_way w2 p2)
+
+pub wide_path : (w2 : Text) → Plain w2 → first_of (codes "path") (matches_of check_arguments (codes "--wide" ∷ w2 ∷ [])) ≡ Some w2
+unfolding clap_on_literals check_arguments
+wide_path w2 p2 = ap (λ (k : Walk). first_of (codes "path") (finished check_app.top.rules k.held)) (wide_walk_2 w2 p2)
+
+pub wide_flag : (w2 : Text) → Plain w2 → first_of (codes "wide") (matches_of check_arguments (codes "--wide" ∷ w2 ∷ [])) ≡ Some (codes "true")
+unfolding clap_on_literals check_arguments
+wide_flag w2 p2 = ap (λ (k : Walk). first_of (codes "wide") (finished check_app.top.rules k.held)) (wide_walk_2 w2 p2)
+
+-- the places of `judge`
+
+abbrev judge_app : App
+judge_app = built judge_arguments
+
+-- where the walk stands after its words, and what is held there
+abbrev judge_stood_1 : Text → Walk
+judge_stood_1 w1 = walked judge_app.top.rules [] (at nothing_held 1) w1
+
+abbrev judge_held_1 : Text → Held
+judge_held_1 w1 = held_after judge_app.top.rules nothing_held 1 w1
+
+judge_walk_1 : (w1 : Text) → Plain w1 → judge_stood_1 w1 ≡ at (judge_held_1 w1) 2
+unfolding clap_on_literals judge_arguments
+judge_walk_1 w1 p1 = next_walk judge_app.top.rules (at nothing_held 1) nothing_held 1 w1 refl p1 refl
+
+judge_way : (w1 : Text) → Plain w1 → walk_fault judge_app.top [] (at nothing_held 1) (w1 ∷ []) ≡ []
+unfolding clap_on_literals judge_arguments
+judge_way w1 p1 =
+    next_turn judge_app.top (at nothing_held 1) nothing_held 1 w1 [] refl p1 refl
+    (no_turn judge_app.top (judge_stood_1 w1))
+
+pub judge_taken : (w1 : Text) → Plain w1 → fault_of judge_arguments (w1 ∷ []) ≡ []
+unfolding clap_on_literals judge_arguments
+judge_taken w1 p1 = ap₂ (faults_by judge_app) (judge_walk_1 w1 p1) (judge_way w1 p1)
+
+pub judge_path : (w1 : Text) → Plain w1 → first_of (codes "path") (matches_of judge_arguments (w1 ∷ [])) ≡ Some w1
+unfolding clap_on_literals judge_arguments
+judge_path w1 p1 = ap (λ (k : Walk). first_of (codes "path") (finished judge_app.top.rules k.held)) (judge_walk_1 w1 p1)
 
 -- the places of `pipe`
 

@@ -3,13 +3,14 @@ use Rattle.std.specs.Prelude.{Some, true, codes}
 use Rattle.clap.specs.Words.{App, Rule, Text, new_app, new_rule, with_rule}
 use Rattle.clap.specs.declared.builder.action.ArgAction.TheVariants.{Set, SetTrue}
 use Rattle.command_line.specs.declared.arguments.Name.{Name}
-use Rattle.command_line.specs.declared.arguments.Name.TheVariants.{Pipe, Serve, Check, Sim, Stop}
+use Rattle.command_line.specs.declared.arguments.Name.TheVariants.{Pipe, Serve, Check, Judge, Sim, Stop}
 
 -- the word that names a command
 abbrev pub word_of : Name → Text
 word_of Pipe = codes "pipe"
 word_of Serve = codes "serve"
 word_of Check = codes "check"
+word_of Judge = codes "judge"
 word_of Sim = codes "sim"
 word_of Stop = codes "stop"
 
@@ -46,9 +47,13 @@ serve_arguments =
     (text_option (codes "level"))) (text_option (codes "seed"))) (text_option (codes "listen"))) (text_option (codes "workers")))
     (text_option (codes "accept"))) (text_option (codes "log"))) (text_option (codes "setup"))) (flag (codes "quiet"))
 
--- `check PATH`
+-- `check PATH`, with the flag `--wide` or without
 unfoldable pub check_arguments : App
-check_arguments = with_rule (bare (codes "check")) (place (codes "path"))
+check_arguments = with_rule (with_rule (bare (codes "check")) (place (codes "path"))) (flag (codes "wide"))
+
+-- `judge PATH`
+unfoldable pub judge_arguments : App
+judge_arguments = with_rule (bare (codes "judge")) (place (codes "path"))
 
 -- `sim LEVEL SEED SESSIONS QUERIES`, with the option `--log PATH`
 unfoldable pub sim_arguments : App
@@ -64,5 +69,6 @@ abbrev pub arguments_of : Name → App
 arguments_of Pipe = pipe_arguments
 arguments_of Serve = serve_arguments
 arguments_of Check = check_arguments
+arguments_of Judge = judge_arguments
 arguments_of Sim = sim_arguments
 arguments_of Stop = stop_arguments

@@ -1,5 +1,5 @@
 -- The words of the command line: the name of a command, and words that `clap` takes for its arguments.
-use Rattle.std.specs.Prelude.{◌≡◌, ◌≢◌, ℕ, List, [], ◌∷◌, codes, Option, Some, None, IsSomeAnd, unwrap_or}
+use Rattle.std.specs.Prelude.{◌≡◌, ◌≢◌, ◌⊎◌, ℕ, Bool, true, false, List, [], ◌∷◌, codes, Option, Some, None, IsSomeAnd, unwrap_or}
 use Rattle.cell_base.specs.declared.level.Level.{Level}
 use Rattle.cell_base.specs.declared.level.Level.TheVariants.{Rc}
 use Rattle.clap.specs.Words.{Text, Row, fault_of, matches_of, first_of}
@@ -10,6 +10,8 @@ use Rattle.command_line.specs.declared.arguments.Name.TheVariants as names
 use Rattle.command_line.specs.declared.serve.Progress.{Progress}
 use Rattle.command_line.specs.declared.serve.Progress.TheVariants.{Told, Quiet}
 use Rattle.command_line.specs.declared.serve.ServeOptions.{ServeOptions}
+use Rattle.command_line.specs.declared.question.Topic.{Topic}
+use Rattle.command_line.specs.declared.question.Topic.TheVariants as topics
 use Rattle.command_line.specs.declared.reading.CommandLine.{CommandLine}
 use Rattle.command_line.specs.declared.reading.CommandLine.TheVariants as lines
 
@@ -30,9 +32,19 @@ pub record GivesPipe (said : List Row) (level : Level) (words : List ℕ) : Type
   pub level_is : IsSomeAnd (first_of (codes "level") said) (λ text. IsLevelWord text level)
   pub words_are : IsSomeAnd (first_of (codes "words") said) (λ text. Lists text words)
 
--- the path of `check PATH`
-abbrev pub GivesCheck : List Row → List ℕ → Type 0
-GivesCheck said path = first_of (codes "path") said ≡ Some path
+-- whether a flag stands among the words: `clap` gives it the value `true` then, and else `false`
+abbrev pub IsFlag : Option (List ℕ) → Bool → Type 0
+IsFlag flag true = flag ≡ Some (codes "true")
+IsFlag flag false = flag ≢ Some (codes "true")
+
+-- the path of `check PATH`, and whether its flag is there
+pub record GivesCheck (said : List Row) (path : List ℕ) (wide : Bool) : Type 0 where
+  pub path_is : first_of (codes "path") said ≡ Some path
+  pub wide_is : IsFlag (first_of (codes "wide") said) wide
+
+-- the path of `judge PATH`
+abbrev pub GivesJudge : List Row → List ℕ → Type 0
+GivesJudge said path = first_of (codes "path") said ≡ Some path
 
 -- what `sim LEVEL SEED SESSIONS QUERIES` simulates, and the log's path of its option `--log PATH`
 pub record GivesSim (said : List Row) (level : Level) (seed sessions queries : ℕ) (log : Option (List ℕ)) : Type 0 where
@@ -78,9 +90,13 @@ IsPipe args level words = (said : List Row) × Says names.Pipe args said × Give
 abbrev pub IsServe : List (List ℕ) → ServeOptions → Type 0
 IsServe args options = (said : List Row) × Says names.Serve args said × GivesServe said options
 
--- `check PATH`
-abbrev pub IsCheck : List (List ℕ) → List ℕ → Type 0
-IsCheck args path = (said : List Row) × Says names.Check args said × GivesCheck said path
+-- `check PATH`, with `--wide` or without
+abbrev pub IsCheck : List (List ℕ) → List ℕ → Bool → Type 0
+IsCheck args path wide = (said : List Row) × Says names.Check args said × GivesCheck said path wide
+
+-- `judge PATH`
+abbrev pub IsJudge : List (List ℕ) → List ℕ → Type 0
+IsJudge args path = (said : List Row) × Says names.Judge args said × GivesJudge said path
 
 -- `sim LEVEL SEED SESSIONS QUERIES`, with `--log PATH` where a log is asked for
 abbrev pub IsSim : List (List ℕ) → Level → ℕ → ℕ → ℕ → Option (List ℕ) → Type 0
@@ -90,21 +106,39 @@ IsSim args level seed sessions queries log = (said : List Row) × Says names.Sim
 abbrev pub IsStop : List (List ℕ) → List ℕ → Type 0
 IsStop args address = (said : List Row) × Says names.Stop args said × GivesStop said address
 
+-- The words ask for help: about the program by `--help` or `help` alone, about a command by its name and `--help`.
+abbrev pub IsHelp : List (List ℕ) → Topic → Type 0
+IsHelp args topics.Program = (args ≡ codes "--help" ∷ []) ⊎ (args ≡ codes "help" ∷ [])
+IsHelp args (topics.Command name) = args ≡ word_of name ∷ codes "--help" ∷ []
+
+-- `--version`
+abbrev pub IsVersion : List (List ℕ) → Type 0
+IsVersion args = args ≡ codes "--version" ∷ []
+
+-- the words ask for help, or for the version
+abbrev pub AsksAboutProgram : List (List ℕ) → Type 0
+AsksAboutProgram args = ((topic : Topic) × IsHelp args topic) ⊎ IsVersion args
+
 -- the words are no command
 pub record IsNoCommand (args : List (List ℕ)) : Type 0 where
   pub no_pipe : (level : Level) (words : List ℕ) → ¬ (IsPipe args level words)
   pub no_serve : (options : ServeOptions) → ¬ (IsServe args options)
-  pub no_check : (path : List ℕ) → ¬ (IsCheck args path)
+  pub no_check : (path : List ℕ) (wide : Bool) → ¬ (IsCheck args path wide)
+  pub no_judge : (path : List ℕ) → ¬ (IsJudge args path)
   pub no_sim : (level : Level) (seed sessions queries : ℕ) (log : Option (List ℕ)) → ¬ (IsSim args level seed sessions queries log)
   pub no_stop : (address : List ℕ) → ¬ (IsStop args address)
+  pub asks_nothing : ¬ (AsksAboutProgram args)
 
 -- what the words are
 abbrev pub IsCommandLine : List (List ℕ) → CommandLine → Type 0
 IsCommandLine args (lines.Pipe pipe) = IsPipe args pipe.level pipe.words
 IsCommandLine args (lines.Serve options) = IsServe args options
-IsCommandLine args (lines.Check path) = IsCheck args path
+IsCommandLine args (lines.Check path wide) = IsCheck args path wide
+IsCommandLine args (lines.Judge path) = IsJudge args path
 IsCommandLine args (lines.Sim plan) = IsSim args plan.level plan.seed plan.sessions plan.queries plan.log
 IsCommandLine args (lines.Stop address) = IsStop args address
+IsCommandLine args (lines.Help topic) = IsHelp args topic
+IsCommandLine args lines.Version = IsVersion args
 IsCommandLine args lines.Unknown = IsNoCommand args
 
 -- the same words are one command
@@ -116,7 +150,12 @@ abbrev pub PlainPipe : Type 0
 PlainPipe = (level : Level) (list words : List ℕ) → Lists list words → IsPipe (codes "pipe" ∷ level_word level ∷ list ∷ []) level words
 
 abbrev pub PlainCheck : Type 0
-PlainCheck = (first : ℕ) (rest : List ℕ) → first ≢ 45 → IsCheck (codes "check" ∷ (first ∷ rest) ∷ []) (first ∷ rest)
+PlainCheck = (first : ℕ) (rest : List ℕ) → first ≢ 45 →
+    IsCheck (codes "check" ∷ (first ∷ rest) ∷ []) (first ∷ rest) false
+    × IsCheck (codes "check" ∷ codes "--wide" ∷ (first ∷ rest) ∷ []) (first ∷ rest) true
+
+abbrev pub PlainJudge : Type 0
+PlainJudge = (first : ℕ) (rest : List ℕ) → first ≢ 45 → IsJudge (codes "judge" ∷ (first ∷ rest) ∷ []) (first ∷ rest)
 
 abbrev pub PlainSim : Type 0
 PlainSim = (level : Level) (seed_digits session_digits query_digits : List ℕ) (seed sessions queries : ℕ) → IsLongWord seed_digits seed

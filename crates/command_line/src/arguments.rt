@@ -3,7 +3,7 @@ ghost use Rattle.std.specs.Prelude.{◌≡◌, ◌≢◌, ◌∷◌, List, IfOk,
 ghost use Rattle.clap.specs.Words.{app_of, rule_of, with_rule, Text as Bytes};
 ghost use Rattle.command_line.specs.declared.arguments.Name.{Name as Named};
 ghost use Rattle.command_line.specs.Rules.{rule_for};
-ghost use Rattle.command_line.specs.Arguments.{word_of, place, last_place, text_option, flag, bare, arguments_of, pipe_arguments, serve_arguments, check_arguments, sim_arguments, stop_arguments};
+ghost use Rattle.command_line.specs.Arguments.{word_of, place, last_place, text_option, flag, bare, arguments_of, pipe_arguments, serve_arguments, check_arguments, judge_arguments, sim_arguments, stop_arguments};
 
 use cell_base::{Memory, Text};
 use clap::{Arg, ArgAction, Command};
@@ -15,6 +15,7 @@ pub enum Name {
     Pipe,
     Serve,
     Check,
+    Judge,
     Sim,
     Stop,
 }
@@ -43,6 +44,8 @@ fn named(word: &str) -> Option<Name>
         Some(Name::Serve)
     } else if word == "check" {
         Some(Name::Check)
+    } else if word == "judge" {
+        Some(Name::Judge)
     } else if word == "sim" {
         Some(Name::Sim)
     } else if word == "stop" {
@@ -193,7 +196,15 @@ fn serve_arguments<'a>(alloc: Global) -> Result<Command<'a>, Memory>
 fn check_arguments<'a>(alloc: Global) -> Result<Command<'a>, Memory>
     ensures { IfOk result (λ command. app_of command ≡ check_arguments) }
 {
-    with_one(alloc, bare(alloc, "check"), Kind::Place, "path")
+    let placed = with_one(alloc, bare(alloc, "check"), Kind::Place, "path")?;
+    with_one(alloc, placed, Kind::Flag, "wide")
+}
+
+// The arguments of `judge`.
+fn judge_arguments<'a>(alloc: Global) -> Result<Command<'a>, Memory>
+    ensures { IfOk result (λ command. app_of command ≡ judge_arguments) }
+{
+    with_one(alloc, bare(alloc, "judge"), Kind::Place, "path")
 }
 
 // The arguments of `sim`.
@@ -227,6 +238,7 @@ pub fn arguments_of<'a>(alloc: Global, name: Name) -> Result<Command<'a>, Memory
         Name::Pipe => pipe_arguments(alloc),
         Name::Serve => serve_arguments(alloc),
         Name::Check => check_arguments(alloc),
+        Name::Judge => judge_arguments(alloc),
         Name::Sim => sim_arguments(alloc),
         Name::Stop => stop_arguments(alloc),
     }

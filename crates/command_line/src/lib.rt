@@ -10,13 +10,18 @@ mod given;
 mod number_lists;
 mod numbers;
 mod pipe;
+mod question;
 mod reading;
 mod said;
 mod serve;
 mod sim;
 mod stop;
 
+pub use arguments::{Name, name_of};
+pub use number_lists::words_of;
+pub use numbers::{level_of, number, up_to};
 pub use pipe::PipeCommand;
+pub use question::Topic;
 pub use reading::{CommandLine, one_command, plain_words, read_command};
 pub use serve::{Progress, ServeOptions};
 pub use sim::SimPlan;

@@ -1,13 +1,14 @@
 // A history that has as many tables as it may.
 ghost use Rattle.std.specs.Prelude.{◌≡◌, IfOk, OnOk};
 ghost use Rattle.sound_table.specs.Sound.{IsSound};
-ghost use Rattle.history_core.specs.Book.{no_session, IsIdle};
+ghost use Rattle.history_book.specs.Book.{no_session, IsIdle};
 
 use crate::held::right;
 use cell_base::{Level, Memory};
 use created_tables::table_of;
 use held_values::without;
-use history_core::{Book, BookFault, DefineAnswer, Event, History, InitialState, Limit};
+use history_book::Book;
+use history_core::{BookFault, DefineAnswer, Event, History, InitialState, Limit};
 use sql_tree::Table;
 use std::alloc::Global;
 use std::test::Fail;

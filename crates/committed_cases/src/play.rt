@@ -2,14 +2,15 @@
 ghost use Rattle.std.specs.Prelude.{◌≡◌, ◌↔◌, OnOk, IsTrue};
 ghost use Rattle.history_core.specs.Events.{table_of as the_table};
 ghost use Rattle.history_core.specs.Initial.{IsStorable};
-ghost use Rattle.history_core.specs.Book.{no_session, IsIdle, IsInTransaction, HasTable};
+ghost use Rattle.history_book.specs.Book.{no_session, IsIdle, IsInTransaction, HasTable};
 
 use crate::cells::{Put, cell_of, value_of};
 use crate::held::refused;
 use cell_base::{Cell, Level, Value};
 use created_tables::table_of;
 use held_values::{kept, without};
-use history_core::{Book, BookFault, InitialState};
+use history_book::Book;
+use history_core::{BookFault, InitialState};
 use std::alloc::Global;
 use valid_writes::{SeatBook, Store};
 

@@ -26,7 +26,7 @@ use Rattle.history_core.specs.Events.{names, weight_of, weights_of, defined}
 use Rattle.history_core.specs.Initial.{initial_load, load_of}
 use Rattle.history_core.specs.Legal.{full_for}
 use Rattle.history_core.specs.Chronicle.{Chronicle, IsLegalChronicle}
-use Rattle.history_core.specs.Book.{Past, in_session, session_of, GoesOn, Adds, AnswersDefine}
+use Rattle.history_book.specs.Book.{Past, in_session, session_of, GoesOn, Adds, AnswersDefine}
 use Rattle.history_core.proofs.KeptLemmas.{names-push}
 use Rattle.history_core.proofs.Places.{slice_get-take}
 use Rattle.valid_writes.specs.Owning.{OwnsAllThatComes}

@@ -8,7 +8,7 @@ use Rattle.sound_table.specs.Sound.{IsSound}
 use Rattle.history_core.specs.declared.event.Event.TheVariants.{Open, Close}
 use Rattle.history_core.specs.Chronicle.{Chronicle}
 use Rattle.history_core.specs.Initial.{initial_load}
-use Rattle.history_core.specs.Book.{Past, no_session, in_session}
+use Rattle.history_book.specs.Book.{Past, no_session, in_session}
 use Rattle.committed_rows.specs.Start.{definitions}
 
 -- a history in which session 1 has defined these tables, and is still open

@@ -7,7 +7,8 @@ ghost use Rattle.committed_rows.specs.Defining.{started, CanStand, IsFresh, HasD
 
 use crate::rows::committed_rows;
 use cell_base::{Level, Memory};
-use history_core::{Book, BookFault, History, InitialState};
+use history_book::Book;
+use history_core::{BookFault, History, InitialState};
 use sql_tree::Table;
 use std::alloc::Global;
 use valid_writes::{SeatBook, Store};

@@ -6,7 +6,7 @@ use Rattle.link_traits.specs.Traffic.{Sight}
 use Rattle.link_traits.specs.declared.host.HostFault.{HostFault}
 use Rattle.link_traits.specs.declared.host.HostFault.TheVariants as faults
 use Rattle.history_core.specs.Chronicle.{IsLegalChronicle}
-use Rattle.history_core.specs.Book.{Past, no_session}
+use Rattle.history_book.specs.Book.{Past, no_session}
 use Rattle.session_core.specs.declared.served.Served.{Served}
 use Rattle.session_core.specs.Serve.{Account, Serves, scene_of}
 use Rattle.doors.specs.Passage.{Passage, CameIn, IsNextOf, given_back, accept_failed}

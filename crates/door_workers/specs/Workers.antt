@@ -6,7 +6,7 @@ use Rattle.link_traits.specs.Traffic.{Sight}
 use Rattle.link_traits.specs.declared.host.HostFault.{HostFault}
 use Rattle.link_traits.specs.declared.host.HostFault.TheVariants as faults
 use Rattle.history_core.specs.Chronicle.{IsLegalChronicle}
-use Rattle.history_core.specs.Book.{Past, no_session}
+use Rattle.history_book.specs.Book.{Past, no_session}
 use Rattle.session_core.specs.declared.served.Served.{Served}
 use Rattle.doors.specs.Passage.{Passage}
 use Rattle.door_workers.specs.Visits.{Visit, AreVisits, came_of, went_of, outcome_of}

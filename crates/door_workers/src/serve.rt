@@ -2,7 +2,7 @@
 ghost use Rattle.std.specs.Prelude.{◌≡◌, ◌≤◌, ◌<◌, ◌+◌, ◌++◌, ◌∷◌, ℕ, [], true, false, None, Some, All, length, vec_len, vec_capacity, cond};
 ghost use Rattle.link_traits.specs.Traffic.{Sight, sight_of};
 ghost use Rattle.history_core.specs.Chronicle.{IsLegalChronicle};
-ghost use Rattle.history_core.specs.Book.{no_session};
+ghost use Rattle.history_book.specs.Book.{no_session};
 ghost use Rattle.session_core.specs.Serve.{Account, Serves, scene_of};
 ghost use Rattle.doors.specs.Passage.{given_back};
 ghost use Rattle.door_workers.specs.Pairs.{EachPair};
@@ -12,8 +12,7 @@ use crate::progress::{Progress, tell_came, tell_fault, tell_none, tell_went};
 use crate::worker::Worker;
 use cell_base::Level;
 use doors::Door;
-use history_core::Book;
-use link_traits::Words;
+use history_book::{Book, Words};
 use session_core::{Served, serve_link};
 use std::alloc::Global;
 use std::thread;
@@ -112,7 +111,7 @@ fn work<R: Eprint, B: Book, D: Door, W: Words>(
 /// gives it back. Where no thread can be made, workers run one after another.
 ///
 /// With `Progress::Told` lines on standard error tell when a link came in, and of its session when it has gone back.
-pub fn serve_doors<R: Threads + Eprint + Sync, B: Book + Send, D: Door, W: Words>(
+pub fn serve_doors<R: Threads + Eprint + Sync, B: Book + Send, D: Door, W: Words + Send>(
     rt: &R,
     alloc: Global,
     level: Level,

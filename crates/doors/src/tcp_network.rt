@@ -11,7 +11,7 @@ use crate::stop_sign::{StopSign, send_stop_request};
 use crate::tcp_call::{Opening, TcpDoorsCall};
 use crate::tcp_door::TcpDoor;
 use cell_base::{Items, Text};
-use link_traits::HostFault;
+use link_traits::{HostFault, words_of};
 use std::alloc::Global;
 use std::io;
 use std::marker::Model;
@@ -40,6 +40,15 @@ impl<R: Net<Listener = TcpListener, Stream = TcpStream> + Eprint + Copy> Model f
       stops = n.stops.items;
       failures = n.failures;
     } };
+}
+
+// Tells in one line that the command which asks this of the network met a fault at the address, in the system's words.
+fn tell<E: Eprint>(rt: &E, alloc: Global, command: &str, address: &Text, fault: &io::Error) {
+    let address = address.as_str();
+    let _ = match words_of(alloc, fault) {
+        Ok(words) => eprintln!(rt; "{command}: {address}: {}", words.as_str()),
+        Err(_) => eprintln!(rt; "{command}: {address}: {fault}"),
+    };
 }
 
 // So many doors over one listening socket at this address.
@@ -116,7 +125,7 @@ impl<R: Net<Listener = TcpListener, Stream = TcpStream> + Eprint + Copy> TcpNetw
                 Err(HostFault::Memory)
             }
             Err(fault) => {
-                let _ = eprintln!(self.rt; "could not listen at {}: {fault}", address.as_str());
+                tell(&self.rt, self.alloc, "serve", address, &fault);
                 self.returned.keep();
                 self.told.push_reserved(TcpDoorsCall {
                     address: told,
@@ -147,7 +156,7 @@ impl<R: Net<Listener = TcpListener, Stream = TcpStream> + Eprint + Copy> TcpNetw
             }
             Err(fault) if fault.kind() == io::ErrorKind::OutOfMemory => Err(HostFault::Memory),
             Err(fault) => {
-                let _ = eprintln!(self.rt; "could not ask {} to stop: {fault}", address.as_str());
+                tell(&self.rt, self.alloc, "stop", address, &fault);
                 self.stops.push_reserved(StopCall {
                     address: told,
                     sent: false,

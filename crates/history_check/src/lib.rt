@@ -31,7 +31,7 @@ pub use breach::{Breach, CheckFault};
 pub use commits::set_committed;
 pub use events::check_events;
 pub use laws::{event_laws, legal_laws, trace_laws};
-pub use order::{check, check_order};
+pub use order::{check, check_by, check_order, check_order_by};
 pub use pending_writes::{PendingWrites, add_place, clear_pending};
 pub use session_note::SessionNote;
 pub use session_notes::{close_session, set_pending};

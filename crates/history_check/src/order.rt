@@ -9,7 +9,7 @@ use crate::events::note_events;
 use crate::{Breach, CheckFault};
 use cell_writers::CellNotes;
 use history_log::Trace;
-use order_test::{Unkept, first_unkept};
+use order_test::{EventWalk, InTurn, Unkept, first_unkept_by};
 use std::alloc::Global;
 
 /// Judges a trace: that its events are a history of its initial state, as `check_events` does, and that its order meets the history. It holds
@@ -24,8 +24,17 @@ pub fn check(alloc: Global, trace: &Trace) -> Result<(), CheckFault>
     ensures ok { OnOk result (IsRightTrace trace.now) }
     ensures breach { IfBreach result (IsFirstBreach trace.now) }
 {
+    check_by(alloc, &InTurn, trace)
+}
+
+/// The same, where the walk goes over the events before their order is judged one after another.
+pub fn check_by<W: EventWalk>(alloc: Global, walk: &W, trace: &Trace) -> Result<(), CheckFault>
+    requires few { length trace.now.events < 4294967296 }
+    ensures ok { OnOk result (IsRightTrace trace.now) }
+    ensures breach { IfBreach result (IsFirstBreach trace.now) }
+{
     match note_events(alloc, trace.initial.as_slice(), trace.events.as_slice()) {
-        Ok(cells) => check_order(alloc, &cells, trace),
+        Ok(cells) => check_order_by(alloc, walk, &cells, trace),
         Err(fault) => Err(fault),
     }
 }
@@ -39,8 +48,26 @@ pub fn check_order(alloc: Global, cells: &CellNotes, trace: &Trace) -> Result<()
     ensures ok { OnOk result (IsRightTrace trace.now) }
     ensures breach { IfBreach result (IsFirstBreach trace.now) }
 {
-    match first_unkept(
+    check_order_by(alloc, &InTurn, cells, trace)
+}
+
+/// The same, where the walk goes over the events before they are judged one after another.
+pub fn check_order_by<W: EventWalk>(
+    alloc: Global,
+    walk: &W,
+    cells: &CellNotes,
+    trace: &Trace,
+) -> Result<(), CheckFault>
+    requires notes { AreCellNotes trace.now.events cells.now }
+    requires numbered { AreNumbered trace.now.events cells.now.numbers }
+    requires right { AreRight trace.now.initial trace.now.events }
+    requires few { length trace.now.events < 4294967296 }
+    ensures ok { OnOk result (IsRightTrace trace.now) }
+    ensures breach { IfBreach result (IsFirstBreach trace.now) }
+{
+    match first_unkept_by(
         alloc,
+        walk,
         trace.events.as_slice(),
         cells,
         trace.order.as_slice(),

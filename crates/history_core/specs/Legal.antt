@@ -37,6 +37,12 @@ IsKeyBelow (Int a) (Text b) = Unit {0}
 IsKeyBelow (Text a) (Int b) = ⊥
 IsKeyBelow (Text a) (Text b) = slice_cmp nat_cmp a b ≡ Less
 
+-- each key is below those after it, none stands twice, and there are fewer than 2 ^ 32
+pub record IsKeyList (keys : List Key) : Type 0 where
+  pub ascending : (i j : ℕ) (a b : Key) → i < j → slice_get keys i ≡ Some a → slice_get keys j ≡ Some b → IsKeyBelow a b
+  pub once : (i j : ℕ) (key : Key) → slice_get keys i ≡ Some key → slice_get keys j ≡ Some key → i ≡ j
+  pub few : length keys < 4294967296
+
 -- the keys of the table that a scan lists, ascending
 pub record ListsKeys (initial : List (Cell × Value)) (events : List Event) (session table : ℕ) (keys : List Key) : Type 0 where
   pub ascending : (k : ℕ) (a b : Key) → slice_get keys k ≡ Some a → slice_get keys (k + 1) ≡ Some b → IsKeyBelow a b

@@ -6,6 +6,5 @@ pub mod Relations
 pub mod Forced
 pub mod Legal
 pub mod Chronicle
-pub mod Book
 pub mod Records
 pub mod Kept

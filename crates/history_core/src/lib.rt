@@ -2,11 +2,9 @@
 //!
 //! `History` keeps the events, with a record of each transaction that says what the events say of it, and takes each event
 //! that fits, or names the limit that keeps it out. Each transaction has a level, and `InitialState` is what stands in the
-//! tables before any transaction. `Book` is one session's way to a history, and `legal_laws` says what
-//! holds of each legal one.
+//! tables before any transaction. `legal_laws` says what holds of each legal one.
 #![tactic(auto)]
 
-mod book;
 mod ends;
 mod event;
 mod fault;
@@ -22,7 +20,6 @@ mod txn;
 mod weight;
 mod whole;
 
-pub use book::Book;
 pub use event::Event;
 pub use fault::{BookFault, DefineAnswer, Limit};
 pub use history::History;

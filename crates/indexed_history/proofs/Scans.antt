@@ -21,7 +21,7 @@ use Rattle.history_core.specs.Transactions.{IsPending, IsCommitted}
 use Rattle.history_core.specs.Relations.{HasWritten}
 use Rattle.history_core.specs.Initial.{IsInitialState}
 use Rattle.history_core.specs.Legal.{IsKeyBelow, WroteItself, ListsKeys}
-use Rattle.history_core.specs.Book.{IsKeyList}
+use Rattle.history_core.specs.Legal.{IsKeyList}
 use Rattle.history_core.proofs.Places.{slice_get-append_left}
 use Rattle.history_core.proofs.Prefixes.{slice_get-at_end}
 use Rattle.indexed_history.specs.Writers.{ListsWriters}

@@ -7,7 +7,7 @@ ghost use Rattle.history_core.specs.Initial.{IsInitialState};
 ghost use Rattle.history_core.specs.Legal.{Follows, ListsKeys, full_for};
 ghost use Rattle.history_core.specs.Chronicle.{followed_by, with_table};
 ghost use Rattle.history_core.specs.Records.{is_any_end};
-ghost use Rattle.history_core.specs.Book.{IsKeyList};
+ghost use Rattle.history_core.specs.Legal.{IsKeyList};
 ghost use Rattle.indexed_history.specs.Writers.{ListsWriters, IsPlain};
 
 use crate::index::{self, numbers_of};

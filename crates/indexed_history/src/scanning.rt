@@ -4,7 +4,7 @@ ghost use Rattle.std.specs.Prelude.{◌≡◌, ◌↔◌, ◌<◌, ℕ, true, Is
 ghost use Rattle.cell_base.specs.declared.key.Key.{Key as KeyValue};
 ghost use Rattle.history_core.specs.Initial.{IsInitialState};
 ghost use Rattle.history_core.specs.Legal.{ListsKeys};
-ghost use Rattle.history_core.specs.Book.{IsKeyList};
+ghost use Rattle.history_core.specs.Legal.{IsKeyList};
 ghost use Rattle.indexed_history.specs.Parts.{AreIndexed};
 ghost use Rattle.indexed_history.specs.Keys.{IsListed, AreListed, ListsNext};
 

@@ -60,6 +60,41 @@ fn an_earlier_read_sees_it_from_read_atomic_on(rt: HostRuntime) -> Result<(), Fa
     are_judged(rt.alloc(), FRACTURED, OF_FRACTURED)
 }
 
+// Transactions 1 and 2 each write the fields of two rows; transaction 3 takes one of these from each.
+const MIXED: &str = "\
+monkey-log 2 rc
+open 1
+open 2
+open 3
+define 1 x74
+begin 1 rc
+write 1 f.0.1.1 10
+write 1 f.0.2.1 10
+commit 1
+begin 2 rc
+write 2 f.0.1.1 20
+write 2 f.0.2.1 20
+commit 2
+begin 3 rc
+read 3 f.0.1.1 1 3 1 10
+read 3 f.0.2.1 2 2 1 20
+commit 3
+order 0 1 2 3
+end
+";
+
+const OF_MIXED: &str = r"
+14 begin 3 ra => breach event 14 axiom 1 2 3 f.0.1.1
+14 begin 3 cc => breach event 14 axiom 1 2 3 f.0.1.1
+6 begin 1 cc => ok
+18 order 0 2 1 3 => breach event 15 axiom 2 1 3 f.0.2.1
+";
+
+#[test]
+fn two_transactions_are_read_in_part_at_read_committed_alone(rt: HostRuntime) -> Result<(), Fail> {
+    are_judged(rt.alloc(), MIXED, OF_MIXED)
+}
+
 // Transaction 2 reads from 1, and 3 reads from 2 but not from 1.
 const CHAIN: &str = "\
 monkey-log 2 ra

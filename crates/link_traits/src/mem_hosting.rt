@@ -12,6 +12,7 @@ use crate::mem_link::MemLink;
 use crate::mem_sink::MemSink;
 use crate::mem_source::MemSource;
 use cell_base::Text;
+use std::io;
 
 impl Host for MemHost {
     type Link = MemLink;
@@ -120,5 +121,12 @@ impl Host for MemHost {
         ensures new { self.new ≡ with_sink (Some sink) self.old }
     {
         self.lent.sink_back(sink);
+    }
+
+    /// There is no system that said anything.
+    fn reason(&self) -> Option<io::Error>
+        ensures { result ≡ None }
+    {
+        None
     }
 }

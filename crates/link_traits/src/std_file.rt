@@ -4,7 +4,7 @@ ghost use Rattle.link_traits.specs.Hosts.{no_bytes, silent};
 
 use crate::faults::fault;
 use crate::sides::{Failed, Sides, Source};
-use std::io::Read;
+use std::io::{self, Read};
 use std::marker::Model;
 
 /// A source over a file of the system. It tells no bytes.
@@ -12,6 +12,7 @@ use std::marker::Model;
 pub struct FileSource<F: Read + Drop> {
     file: F,
     read_faults: u64,
+    reason: Option<io::Error>,
 }
 
 impl<F: Read + Drop> Model for FileSource<F> {
@@ -31,6 +32,7 @@ impl<F: Read + Drop> FileSource<F> {
         FileSource {
             file,
             read_faults: 0,
+            reason: None,
         }
     }
 
@@ -39,6 +41,11 @@ impl<F: Read + Drop> FileSource<F> {
         ensures { self.now ≡ no_bytes result 0 }
     {
         self.read_faults
+    }
+
+    // What the system said where it failed last.
+    pub(crate) fn reason(&self) -> Option<io::Error> {
+        self.reason
     }
 }
 
@@ -54,7 +61,10 @@ impl<F: Read + Drop> Source for FileSource<F> {
     fn read(&mut self, room: &mut [u8]) -> Result<usize, Failed> {
         match self.file.read(room) {
             Ok(n) => Ok(n),
-            Err(_) => Err(fault(&mut self.read_faults)),
+            Err(reason) => {
+                self.reason = Some(reason);
+                Err(fault(&mut self.read_faults))
+            }
         }
     }
 }

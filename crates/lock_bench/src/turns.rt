@@ -26,16 +26,16 @@ impl Logged for Tally {
 // The call that is measured: it counts one.
 struct Tick;
 
-impl Turn<Tally> for Tick {
+impl Turn<Tally, ()> for Tick {
     type Answer = ();
 
     ghost use Rattle.std.specs.Prelude.{◌≡◌, ◌+◌, ◌%◌, ◌^◌};
 
     ghost needs = { λ _ _. Unit {0} };
 
-    ghost does = { λ _ x _ y. y.count ≡ (x.count + 1) % 2 ^ 64 };
+    ghost does = { λ _ x _ _ y _. y.count ≡ (x.count + 1) % 2 ^ 64 };
 
-    fn run(self, state: &mut Tally) {
+    fn run(self, state: &mut Tally, _: &mut ()) {
         let Tick = self;
         state.count = state.count.wrapping_add(1);
     }
@@ -46,7 +46,7 @@ fn in_one<R: Wait>(rt: &R, lock: &TurnLock<Tally>, mut pass: Pass<Tally>, turns:
     ensures { (result.lock ≡ pass.lock) × (result.parts ≡ pass.parts) }
 {
     for _ in 0..turns {
-        lock.with_turn(rt, &mut pass, Tick);
+        lock.with_turn(rt, &mut pass, Tick, &mut ());
     }
     pass
 }

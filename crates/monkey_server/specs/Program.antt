@@ -4,7 +4,7 @@ use Rattle.cell_base.specs.declared.level.Level.{Level}
 use Rattle.link_traits.specs.Traffic.{Sight}
 use Rattle.link_traits.specs.Host.{Hosted, standard_link_called, link_returned, call_failed, link_failed}
 use Rattle.history_core.specs.Chronicle.{IsLegalChronicle}
-use Rattle.history_core.specs.Book.{Past, no_session}
+use Rattle.history_book.specs.Book.{Past, no_session}
 use Rattle.block_machine.specs.declared.end.End.{End}
 use Rattle.block_machine.specs.declared.end.End.TheVariants as ends
 use Rattle.session_core.specs.declared.served.Served.{Served}
@@ -13,15 +13,18 @@ use Rattle.session_core.specs.Serve.{scene_of, Account, Serves}
 use Rattle.choice_stream.specs.Choices.{DrawsFirst}
 use Rattle.host_calls.specs.Printing.{Printed}
 use Rattle.check_command.specs.Checks.{Checks}
+use Rattle.check_command.specs.Judges.{Judges}
 use Rattle.sim_command.specs.Simulations.{Simulates}
 use Rattle.command_line.specs.Commands.{IsCommandLine}
+use Rattle.command_help.specs.Texts.{help_of, version_line}
 use Rattle.command_line.specs.declared.reading.CommandLine.{CommandLine}
 use Rattle.command_line.specs.declared.reading.CommandLine.TheVariants as lines
 use Rattle.doors.specs.Network.{Networked, stop_sent, stop_failed}
 use Rattle.serve_command.specs.Serving.{Serves as Serving}
 
 abbrev pub usage_line : List ℕ
-usage_line = codes "usage: monkeydb pipe LEVEL WORDS | serve [OPTIONS] | check PATH | sim LEVEL SEED SESSIONS QUERIES | stop [ADDRESS]" ++ 10 ∷ []
+usage_line =
+    codes "usage: monkeydb pipe LEVEL WORDS | serve [OPTIONS] | check [--wide] PATH | sim LEVEL SEED SESSIONS QUERIES | stop [ADDRESS] | judge PATH" ++ 10 ∷ []
 
 -- the past of a book at a level that has no row at first and no event
 abbrev pub no_past : Level → Past
@@ -87,10 +90,13 @@ Stops address before code after =
 abbrev pub Obeys : CommandLine → Networked → Hosted → ℕ → Networked → Hosted → Type 0
 Obeys (lines.Pipe pipe) network before code network_after after = Pipes pipe.level pipe.words before code after × (network_after ≡ network)
 Obeys (lines.Serve options) network before code network_after after = Serving options network before code network_after after
-Obeys (lines.Check path) network before code network_after after = Checks path before code after × (network_after ≡ network)
+Obeys (lines.Check path wide) network before code network_after after = Checks path before code after × (network_after ≡ network)
+Obeys (lines.Judge path) network before code network_after after = Judges path before code after × (network_after ≡ network)
 Obeys (lines.Sim plan) network before code network_after after =
     Simulates plan.level plan.seed plan.sessions plan.queries plan.log before code after × (network_after ≡ network)
 Obeys (lines.Stop address) network before code network_after after = Stops address network code network_after × (after ≡ before)
+Obeys (lines.Help topic) network before code network_after after = Printed (help_of topic) 0 before code after × (network_after ≡ network)
+Obeys lines.Version network before code network_after after = Printed version_line 0 before code after × (network_after ≡ network)
 Obeys lines.Unknown network before code network_after after = Printed usage_line 2 before code after × (network_after ≡ network)
 
 -- what the program does with these words: it obeys the command that they are, or memory ran out before it could

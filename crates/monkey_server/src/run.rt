@@ -4,16 +4,21 @@ ghost use Rattle.link_traits.specs.Host.{objects_out};
 ghost use Rattle.sim_command.specs.Simulations.{Simulates};
 ghost use Rattle.command_line.specs.Commands.{IsCommandLine};
 ghost use Rattle.host_calls.specs.Printing.{Printed};
+ghost use Rattle.check_command.specs.Checks.{Checks};
+ghost use Rattle.check_command.specs.Judges.{Judges};
+ghost use Rattle.command_help.specs.Texts.{help_of, version_line};
 ghost use Rattle.monkey_server.specs.Program.{no_past, usage_line, status_of, ServesAlone, Pipes, Stops, Obeys, Does};
 ghost use Rattle.link_traits.specs.Traffic.{sight_of};
 
+use crate::telling::{tell_end, tell_file, tell_output, tell_sim, tell_words};
 use cell_base::{Items, Level, Memory, Text};
-use check_command::check_file;
+use check_command::{check_file, check_file_wide, judge_file};
 use choice_stream::ListWords;
-use command_line::{CommandLine, PipeCommand, SimPlan, read_command};
+use command_help::{help_text, version_text};
+use command_line::{CommandLine, PipeCommand, SimPlan, Topic, read_command};
 use doors::Network;
 use history_core::InitialState;
-use host_calls::{Status, print};
+use host_calls::{Object, Status, print, tell_fault, tell_memory};
 use link_traits::{Host, HostFault, Link};
 use serve_command::serve;
 use session_core::{End, Served, serve_link};
@@ -24,7 +29,7 @@ use std::thread::Threads;
 use valid_writes::{SeatBook, Store};
 
 const USAGE: &str =
-    "usage: monkeydb pipe LEVEL WORDS | serve [OPTIONS] | check PATH | sim LEVEL SEED SESSIONS QUERIES | stop [ADDRESS]\n";
+    "usage: monkeydb pipe LEVEL WORDS | serve [OPTIONS] | check [--wide] PATH | sim LEVEL SEED SESSIONS QUERIES | stop [ADDRESS] | judge PATH\n";
 
 // The status of what became of a session.
 fn status_for(served: Served) -> Status
@@ -70,7 +75,7 @@ fn new_book(alloc: Global, level: Level) -> Result<SeatBook, Memory>
 }
 
 // Serves one session over the standard link.
-fn pipe<H: Host>(alloc: Global, host: &mut H, command: PipeCommand) -> Status
+fn pipe<R: Eprint, H: Host>(rt: &R, alloc: Global, host: &mut H, command: PipeCommand) -> Status
     requires { objects_out (H.hosted host.old) ≡ 0 }
     ensures pipes { Pipes command.level command.words (H.hosted host.old) result.code (H.hosted host.new) }
     ensures none_out { objects_out (H.hosted host.new) ≡ 0 }
@@ -78,20 +83,84 @@ fn pipe<H: Host>(alloc: Global, host: &mut H, command: PipeCommand) -> Status
     let PipeCommand { level, words } = command;
     let book = match new_book(alloc, level) {
         Ok(book) => book,
-        Err(Memory) => return Status { code: 5 },
+        Err(Memory) => {
+            tell_memory(rt, "pipe");
+            return Status { code: 5 };
+        }
     };
     let mut link = match host.standard_link() {
         Ok(link) => link,
-        Err(HostFault::Failed) => return Status { code: 6 },
-        Err(HostFault::Memory) => return Status { code: 5 },
+        Err(HostFault::Failed) => {
+            let streams = Object::named("standard input and output");
+            tell_fault(
+                rt,
+                alloc,
+                "pipe",
+                streams,
+                host.reason(),
+                "they can't be had",
+            );
+            return Status { code: 6 };
+        }
+        Err(HostFault::Memory) => {
+            tell_memory(rt, "pipe");
+            return Status { code: 5 };
+        }
     };
     let served = serve_alone(alloc, level, book, &mut link, words);
     host.link_back(link);
+    tell_end(rt, alloc, host.reason(), served);
     status_for(served)
 }
 
+// Checks the log of a file, on several threads where that is asked for.
+fn check_log<R: Threads + Sync, H: Host>(
+    rt: &R,
+    alloc: Global,
+    host: &mut H,
+    path: &Text,
+    wide: bool,
+) -> Status
+    requires none_out { objects_out (H.hosted host.old) ≡ 0 }
+    ensures checks { Checks path.now (H.hosted host.old) result.code (H.hosted host.new) }
+    ensures none_out { objects_out (H.hosted host.new) ≡ 0 }
+{
+    if wide {
+        return check_file_wide(rt, alloc, host, path);
+    }
+    check_file(alloc, host, path)
+}
+
+// Checks the log of a file, and tells why that couldn't be done.
+fn check<R: Threads + Eprint + Sync, H: Host>(
+    rt: &R,
+    alloc: Global,
+    host: &mut H,
+    path: &Text,
+    wide: bool,
+) -> Status
+    requires none_out { objects_out (H.hosted host.old) ≡ 0 }
+    ensures checks { Checks path.now (H.hosted host.old) result.code (H.hosted host.new) }
+    ensures none_out { objects_out (H.hosted host.new) ≡ 0 }
+{
+    let status = check_log(rt, alloc, host, path, wide);
+    tell_file(rt, alloc, "check", path, host.reason(), status);
+    status
+}
+
+// Judges the log of a file, and tells why that couldn't be done.
+fn judge<R: Eprint, H: Host>(rt: &R, alloc: Global, host: &mut H, path: &Text) -> Status
+    requires none_out { objects_out (H.hosted host.old) ≡ 0 }
+    ensures judges { Judges path.now (H.hosted host.old) result.code (H.hosted host.new) }
+    ensures none_out { objects_out (H.hosted host.new) ≡ 0 }
+{
+    let status = judge_file(alloc, host, path);
+    tell_file(rt, alloc, "judge", path, host.reason(), status);
+    status
+}
+
 // Simulates many sessions.
-fn sim<H: Host>(alloc: Global, host: &mut H, wanted: &SimPlan) -> Status
+fn sim<R: Eprint, H: Host>(rt: &R, alloc: Global, host: &mut H, wanted: &SimPlan) -> Status
     requires sessions { wanted.now.sessions ≤ 64 }
     requires queries { wanted.now.queries ≤ 200 }
     requires none_out { objects_out (H.hosted host.old) ≡ 0 }
@@ -104,27 +173,62 @@ fn sim<H: Host>(alloc: Global, host: &mut H, wanted: &SimPlan) -> Status
         sessions: wanted.sessions,
         queries: wanted.queries,
     };
-    simulate(alloc, host, plan, &wanted.log)
+    let status = simulate(alloc, host, plan, &wanted.log);
+    tell_sim(rt, alloc, &wanted.log, host.reason(), status);
+    status
 }
 
 // Asks a server to stop.
-fn stop<N: Network>(network: &mut N, address: &Text) -> Status
+fn stop<R: Eprint, N: Network>(rt: &R, network: &mut N, address: &Text) -> Status
     ensures { Stops address.now (N.networked network.old) result.code (N.networked network.new) }
 {
     match network.ask_to_stop(address) {
         Ok(()) => Status { code: 0 },
+        // The network has told why.
         Err(HostFault::Failed) => Status { code: 6 },
-        Err(HostFault::Memory) => Status { code: 5 },
+        Err(HostFault::Memory) => {
+            tell_memory(rt, "stop");
+            Status { code: 5 }
+        }
     }
 }
 
+// Prints a text, and tells where it couldn't be written whole.
+fn say<R: Eprint, H: Host>(rt: &R, alloc: Global, host: &mut H, text: &str, whole: Status) -> Status
+    requires none_out { objects_out (H.hosted host.old) ≡ 0 }
+    ensures printed { Printed text.now whole.code (H.hosted host.old) result.code (H.hosted host.new) }
+    ensures none_out { objects_out (H.hosted host.new) ≡ 0 }
+{
+    let status = print(host, text.as_bytes(), whole);
+    tell_output(rt, alloc, host.reason(), status);
+    status
+}
+
+// Prints what is to be known of the program or a command.
+fn help<R: Eprint, H: Host>(rt: &R, alloc: Global, host: &mut H, topic: Topic) -> Status
+    requires none_out { objects_out (H.hosted host.old) ≡ 0 }
+    ensures printed { Printed (help_of topic) 0 (H.hosted host.old) result.code (H.hosted host.new) }
+    ensures none_out { objects_out (H.hosted host.new) ≡ 0 }
+{
+    say(rt, alloc, host, help_text(topic), Status { code: 0 })
+}
+
+// Prints the version.
+fn version<R: Eprint, H: Host>(rt: &R, alloc: Global, host: &mut H) -> Status
+    requires none_out { objects_out (H.hosted host.old) ≡ 0 }
+    ensures printed { Printed version_line 0 (H.hosted host.old) result.code (H.hosted host.new) }
+    ensures none_out { objects_out (H.hosted host.new) ≡ 0 }
+{
+    say(rt, alloc, host, version_text(), Status { code: 0 })
+}
+
 // Prints the usage line.
-fn print_usage<H: Host>(host: &mut H) -> Status
+fn print_usage<R: Eprint, H: Host>(rt: &R, alloc: Global, host: &mut H) -> Status
     requires none_out { objects_out (H.hosted host.old) ≡ 0 }
     ensures printed { Printed usage_line 2 (H.hosted host.old) result.code (H.hosted host.new) }
     ensures none_out { objects_out (H.hosted host.new) ≡ 0 }
 {
-    print(host, USAGE.as_bytes(), Status { code: 2 })
+    say(rt, alloc, host, USAGE, Status { code: 2 })
 }
 
 // Does what the command says.
@@ -142,27 +246,32 @@ fn obey<R: Threads + Wait + Eprint + Sync, H: Host, N: Network>(
     ensures none_out { objects_out (H.hosted host.new) ≡ 0 }
 {
     match line {
-        CommandLine::Pipe(command) => pipe(alloc, host, command),
+        CommandLine::Pipe(command) => pipe(rt, alloc, host, command),
         CommandLine::Serve(options) => serve(rt, alloc, host, network, &options),
-        CommandLine::Check { path } => check_file(alloc, host, &path),
-        CommandLine::Sim(plan) => sim(alloc, host, &plan),
-        CommandLine::Stop { address } => stop(network, &address),
-        CommandLine::Unknown => print_usage(host),
+        CommandLine::Check { path, wide } => check(rt, alloc, host, &path, wide),
+        CommandLine::Judge { path } => judge(rt, alloc, host, &path),
+        CommandLine::Sim(plan) => sim(rt, alloc, host, &plan),
+        CommandLine::Stop { address } => stop(rt, network, &address),
+        CommandLine::Help(topic) => help(rt, alloc, host, topic),
+        CommandLine::Version => version(rt, alloc, host),
+        CommandLine::Unknown => print_usage(rt, alloc, host),
     }
 }
 
 /// Does all that the program does with the words of its command line, its own name left out. `pipe LEVEL WORDS` serves one
 /// session over the host's standard link, at Read Committed (`rc`), Read Atomic (`ra`) or Causal Consistency (`cc`), with the numbers of
 /// WORDS as the choice words and 0 after them; `serve` serves the links that come in at an address of the network, each as a session over one
-/// history; `check PATH` reads the log of a file and prints `ok`, the first breach of its history, or why it is no log; `sim LEVEL SEED SESSIONS
-/// QUERIES` simulates sessions whose queries and choices are drawn from a seed, and prints a summary of their history; `stop` asks the server
-/// at an address to stop; other words print the usage line.
+/// history; `check PATH` reads the log of a file and prints `ok`, the first breach of its history, or why it is no log, and `check --wide PATH` does
+/// the same on several threads; `judge PATH` prints the strongest level that the history of a log meets, with what proves that; `sim LEVEL SEED
+/// SESSIONS QUERIES` simulates sessions whose queries and choices are drawn from a seed, and prints a summary of their history; `stop` asks the
+/// server at an address to stop; `help`, `--help`, `COMMAND --help` and `--version` print what they ask for; other words print the usage line.
 ///
-/// The status is 0 where the session ended well or was a cancel request, for a server that ended, for `ok`, for a summary, and for a request to stop
-/// that was sent; 1 where its input was cut short or was no messages, where its start was refused, or where more bytes were wanted than are read, for
+/// The status is 0 where the session ended well or was a cancel request, for a server that ended, for `ok`, for a level that a history meets, for a
+/// summary, for help and the version, and for a request to stop that was sent; 1 where its input was cut short or was no messages, where its start was refused, or where more bytes were wanted than are read, for
 /// a breach or a fault of a log, where the setup of a server failed or left too much, and where a simulation made 4,294,967,295 steps without coming
 /// to its end; 2 for the usage line; 3 where reading failed; 4 where writing failed; 5 where memory ran out; and 6 where the host counted that it
-/// gave no link or file, or the network that it opened no doors or sent no request, or where accepting a link failed.
+/// gave no link or file, or the network that it opened no doors or sent no request, or where accepting a link failed. Where the status isn't 0, one
+/// line tells the cause: on the output what a check or a judge found, and else on standard error.
 pub fn monkey_main<R: Threads + Wait + Eprint + Sync, H: Host, N: Network>(
     rt: &R,
     alloc: Global,
@@ -175,7 +284,13 @@ pub fn monkey_main<R: Threads + Wait + Eprint + Sync, H: Host, N: Network>(
     ensures none_out { objects_out (H.hosted host.new) ≡ 0 }
 {
     match read_command(alloc, words) {
-        Ok(line) => obey(rt, alloc, host, network, line),
-        Err(Memory) => Status { code: 5 },
+        Ok(line) => {
+            tell_words(rt, alloc, &line, words);
+            obey(rt, alloc, host, network, line)
+        }
+        Err(Memory) => {
+            tell_memory(rt, "monkeydb");
+            Status { code: 5 }
+        }
     }
 }

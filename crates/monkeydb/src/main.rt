@@ -64,7 +64,10 @@ fn main(rt: HostRuntime) -> ExitCode {
         Ok(words) => monkey_main(&rt, alloc, &mut host, &mut network, &words),
         // Words that aren't text are none that the program knows.
         Err(WordsFault::NotText) => monkey_main(&rt, alloc, &mut host, &mut network, &[]),
-        Err(WordsFault::Memory) => NO_MEMORY,
+        Err(WordsFault::Memory) => {
+            let _ = eprintln!(rt; "monkeydb: out of memory");
+            NO_MEMORY
+        }
     };
     ExitCode::from(status.code)
 }

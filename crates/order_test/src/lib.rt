@@ -24,8 +24,12 @@ mod sight;
 mod survey;
 mod unkept;
 mod unmet;
+mod walk;
 
 pub use laws::order_laws;
 pub use places::{Places, place_at, places_of, stands_before};
-pub use search::first_unkept;
+pub use scene::Scene;
+pub use search::{event_is_kept, first_unkept, first_unkept_by};
+pub use survey::Survey;
 pub use unkept::Unkept;
+pub use walk::{EventWalk, InTurn};

@@ -24,6 +24,7 @@ use crate::scene::Scene;
 use crate::sessions::{first_out_of_session, is_late, txn_of};
 use crate::survey::Survey;
 use crate::unmet::is_rival;
+use crate::walk::{EventWalk, InTurn};
 use cell_base::Memory;
 use cell_writers::CellNotes;
 use history_core::{Event, Txn};
@@ -190,6 +191,47 @@ fn found_at(
     found_of(alloc, survey, scene, &read)
 }
 
+/// Whether the order keeps what the read or scan asks.
+fn read_is_kept(survey: &Survey<'_>, scene: &Scene<'_>, read: &ReadAt<'_>) -> bool
+    requires survey { IsSurvey survey.now }
+    requires scene { IsScene survey.now scene.now }
+    requires read { IsReadIn survey.now read.now }
+    requires reading { IsReading read.now.event.now }
+    ensures { IsTrue result ↔ IsKeptAt survey.now.events.now survey.now.order.now read.now.place }
+{
+    let from = origin(read.event);
+    if is_late(survey, from, read.reader) {
+        return false;
+    }
+    if is_clear(survey, scene, read) {
+        return true;
+    }
+    match first_rival(survey, scene, read) {
+        Some(_rival) => false,
+        None => true,
+    }
+}
+
+/// Whether the order keeps what the event at the place asks.
+pub fn event_is_kept(survey: &Survey<'_>, scene: &Scene<'_>, place: usize) -> bool
+    requires survey { IsSurvey survey.now }
+    requires scene { IsScene survey.now scene.now }
+    requires within { place < length survey.now.events.now }
+    ensures { IsTrue result ↔ IsKeptAt survey.now.events.now survey.now.order.now place }
+{
+    let event = event_at(survey, place);
+    if !is_reading(event) {
+        return true;
+    }
+    let reader = survey.glance.owners[place];
+    let read = ReadAt {
+        place,
+        event,
+        reader,
+    };
+    read_is_kept(survey, scene, &read)
+}
+
 /// The first of the events of which the order doesn't keep what it asks. It keeps what those before the start ask.
 fn found_among(
     alloc: Global,
@@ -211,6 +253,23 @@ fn found_among(
     Ok(None)
 }
 
+/// The same, from the place on at which the walk ended.
+fn found_by_walk<W: EventWalk>(
+    alloc: Global,
+    walk: &W,
+    survey: &Survey<'_>,
+    scene: &Scene<'_>,
+    start: usize,
+) -> Result<Option<Unkept>, Memory>
+    requires survey { IsSurvey survey.now }
+    requires scene { IsScene survey.now scene.now }
+    requires kept { IsKeptBelow survey.now.events.now survey.now.order.now start }
+    ensures { IfOk result (IsFoundAmong survey.now.events.now survey.now.order.now) }
+{
+    let first = walk.kept_up_to(survey, scene, start);
+    found_among(alloc, survey, scene, first)
+}
+
 /// The least pair that session order has, and the order hasn't. It is looked for only where the order may not keep session order.
 fn session_breach(survey: &Survey<'_>, txns: &[Txn]) -> Option<(u32, u32)>
     requires survey { IsSurvey survey.now }
@@ -225,8 +284,9 @@ fn session_breach(survey: &Survey<'_>, txns: &[Txn]) -> Option<(u32, u32)>
 }
 
 /// The first of the events of which the order, which keeps session order, doesn't keep what it asks. It keeps what those before the start ask.
-fn found_after(
+fn found_after<W: EventWalk>(
     alloc: Global,
+    walk: &W,
     survey: &Survey<'_>,
     txns: &[Txn],
     start: usize,
@@ -245,12 +305,13 @@ fn found_after(
         pasts: &pasts,
         lists: &lists,
     };
-    found_among(alloc, survey, &scene, start)
+    found_by_walk(alloc, walk, survey, &scene, start)
 }
 
 /// The first that the order doesn't keep, by the records of the transactions. It keeps what the events before the start ask.
-fn found_by_records(
+fn found_by_records<W: EventWalk>(
     alloc: Global,
+    walk: &W,
     survey: &Survey<'_>,
     start: usize,
 ) -> Result<Option<Unkept>, Memory>
@@ -262,7 +323,7 @@ fn found_by_records(
     let txns = txns_of(alloc, survey.events, &survey.glance.owners)?;
     match session_breach(survey, &txns) {
         Some((earlier, later)) => Ok(Some(Unkept::Session { earlier, later })),
-        None => found_after(alloc, survey, &txns, start),
+        None => found_after(alloc, walk, survey, &txns, start),
     }
 }
 
@@ -275,8 +336,9 @@ fn is_over(survey: &Survey<'_>, start: usize) -> bool
 
 /// The first that the order doesn't keep, where it holds each transaction once and the initial one first. The records of the transactions are made
 /// only where the order isn't clear from what is light.
-fn found_by_glance<'a>(
+fn found_by_glance<'a, W: EventWalk>(
     alloc: Global,
+    walk: &W,
     events: &'a [Event],
     order: &'a [u32],
     places: &'a Places,
@@ -305,7 +367,7 @@ fn found_by_glance<'a>(
     if is_over(&survey, start) {
         return Ok(None);
     }
-    found_by_records(alloc, &survey, start)
+    found_by_records(alloc, walk, &survey, start)
 }
 
 /// Whether the order has as many numbers as there are transactions, the initial one among them.
@@ -316,8 +378,9 @@ fn has_as_many(glance: &Glance, order: &[u32]) -> bool
 }
 
 /// The first that the order doesn't keep, where it holds each number below its own length once and 0 first.
-fn found_in(
+fn found_in<W: EventWalk>(
     alloc: Global,
+    walk: &W,
     events: &[Event],
     order: &[u32],
     places: &Places,
@@ -335,7 +398,7 @@ fn found_in(
     if !has_as_many(&glance, order) {
         return Ok(Some(Unkept::Order));
     }
-    found_by_glance(alloc, events, order, places, cells, &glance)
+    found_by_glance(alloc, walk, events, order, places, cells, &glance)
 }
 
 /// The first that the order doesn't keep of the history: that it holds each transaction once and the initial one first, the order of each
@@ -353,8 +416,25 @@ pub fn first_unkept(
     requires few { length events.now < 4294967296 }
     ensures { IfOk result (IsFoundOfOrder events.now order.now) }
 {
+    first_unkept_by(alloc, &InTurn, events, cells, order)
+}
+
+/// The same, where the walk goes over the events before they are judged one after another.
+pub fn first_unkept_by<W: EventWalk>(
+    alloc: Global,
+    walk: &W,
+    events: &[Event],
+    cells: &CellNotes,
+    order: &[u32],
+) -> Result<Option<Unkept>, Memory>
+    requires orderly { IsOrderly events.now }
+    requires owned { AreOwned events.now }
+    requires writers { AreWriters events.now cells.now }
+    requires few { length events.now < 4294967296 }
+    ensures { IfOk result (IsFoundOfOrder events.now order.now) }
+{
     match places_of(alloc, order)? {
-        Some(places) => found_in(alloc, events, order, &places, cells),
+        Some(places) => found_in(alloc, walk, events, order, &places, cells),
         None => Ok(Some(Unkept::Order)),
     }
 }

@@ -1,24 +1,7 @@
-//! Tests of plans: statements over one table, each with its demands one after another, given the answers, and what it comes
-//! to, worked out by hand.
-//!
-//! What a plan demands is shown as text, so that text is compared with text. The contracts of `cell_compile` say that a plan
-//! demands what the definitions of a statement's course say; these cases show that the definitions are SQL's, and that plans
-//! with ample memory don't give up. The crate has nothing but tests.
-//!
-//! A tree or a plan that is held where a step may fail costs much to check, so each is handed on whole (`kept`, `both` and `alone` of `case_lines`).
+//! Tests of the plans of statements (`plans`), and of what INSERT, UPDATE and DELETE write (`writes`). The crate has nothing but tests.
 #![tactic(auto)]
 
 #[cfg(test)]
-mod changes;
+mod plans;
 #[cfg(test)]
-mod courses;
-#[cfg(test)]
-mod inserts;
-#[cfg(test)]
-mod selects;
-#[cfg(test)]
-mod shown;
-#[cfg(test)]
-mod statements;
-#[cfg(test)]
-mod trees;
+mod writes;

@@ -1,26 +1,7 @@
-//! Tests of kept reachability: that calls succeed with ample memory, worked graphs and stars with answers found by hand, and
-//! pseudo-random ones beside a closure computed by lists.
-//!
-//! The contracts of `reach_rows` say what each call does. No clause says that memory is left, and a definition could say something
-//! else than its reader thinks. The crate has nothing but tests, so that `reach_rows` is proved once.
-//!
-//! A `Reach` or a list that is held where a step may fail costs much to check, so each is handed on whole (`kept` and `alone` of
-//! `checked_reach`).
+//! Tests of rows of bits (`bits`), and of kept reachability over them (`reach`). The crate has nothing but tests.
 #![tactic(auto)]
 
 #[cfg(test)]
-mod calls;
+mod bits;
 #[cfg(test)]
-mod edges;
-#[cfg(test)]
-mod graphs;
-#[cfg(test)]
-mod pairs;
-#[cfg(test)]
-mod plain;
-#[cfg(test)]
-mod stars;
-#[cfg(test)]
-mod steps;
-#[cfg(test)]
-mod stop;
+mod reach;

@@ -5,7 +5,7 @@ use Rattle.sql_tree.specs.declared.table.Table.{Table}
 use Rattle.history_core.specs.declared.event.Event.{Event}
 use Rattle.history_core.specs.Events.{names}
 use Rattle.history_core.specs.Chronicle.{Chronicle, IsLegalChronicle}
-use Rattle.history_core.specs.Book.{Past, SessionState, GoesOn}
+use Rattle.history_book.specs.Book.{Past, SessionState, GoesOn}
 use Rattle.valid_writes.specs.Owning.{OwnsAllThatComes}
 use Rattle.valid_writes.proofs.SameHistory.{same_chronicle}
 

@@ -1,7 +1,7 @@
 -- What a refused call leaves of a book that alone adds events.
 use Rattle.std.specs.Prelude.{◌≡◌}
 use Rattle.history_core.specs.Chronicle.{IsLegalChronicle}
-use Rattle.history_core.specs.Book.{Past, GoesOn}
+use Rattle.history_book.specs.Book.{Past, GoesOn}
 use Rattle.valid_writes.specs.Owning.{OwnsAllThatComes}
 
 -- others may go on where a call is refused, and where the book alone adds events nobody does

@@ -1,23 +1,7 @@
-//! Tests of the rows of a SELECT: statements over small tables with the rows that stand for them, found by hand, and many made
-//! by chance with those of a plain slow program.
-//!
-//! The contract of `rows_of` says that it gives what `row_meaning` defines; the cases show that the definition is SQL's. The crate
-//! has nothing but tests.
+//! Tests of the rows of a SELECT (`selects`), and of aggregates and orders by themselves (`totals`). The crate has nothing but tests.
 #![tactic(auto)]
 
 #[cfg(test)]
-mod answers;
+mod selects;
 #[cfg(test)]
-mod cases;
-#[cfg(test)]
-mod chance;
-#[cfg(test)]
-mod list;
-#[cfg(test)]
-mod made;
-#[cfg(test)]
-mod slow;
-#[cfg(test)]
-mod tests;
-#[cfg(test)]
-mod world;
+mod totals;

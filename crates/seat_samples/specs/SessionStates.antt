@@ -1,6 +1,6 @@
 -- Where the session of a test stands.
 use Rattle.std.specs.Prelude.{◌≡◌, ◌<◌, ℕ, [], length}
-use Rattle.history_core.specs.Book.{Past, IsIdle, IsInTransaction, HasTable, writes_of}
+use Rattle.history_book.specs.Book.{Past, IsIdle, IsInTransaction, HasTable, writes_of}
 use Rattle.history_core.specs.Chronicle.{Chronicle}
 use Rattle.history_core.specs.Legal.{IsOpen}
 use Rattle.history_core.specs.Transactions.{HasPending}

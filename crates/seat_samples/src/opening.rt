@@ -1,10 +1,10 @@
 // Stores whose sessions open one after another.
 ghost use Rattle.std.specs.Prelude.{◌≡◌};
-ghost use Rattle.history_core.specs.Book.{HasSession, no_session};
+ghost use Rattle.history_book.specs.Book.{HasSession, no_session};
 
 use crate::stop::Stop;
 use held_values::{kept, let_go, without};
-use history_core::Book;
+use history_book::Book;
 use std::alloc::Global;
 use table_samples::table;
 use valid_writes::{SeatBook, Store};

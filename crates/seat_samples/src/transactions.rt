@@ -3,8 +3,9 @@ ghost use Rattle.std.specs.Prelude.{OnOk};
 ghost use Rattle.seat_samples.specs.SessionStates.{IsReady, IsFresh, IsBusy};
 
 use crate::stop::Stop;
+use crate::words::touch_by;
 use cell_base::{Level, Value};
-use history_core::Book;
+use history_book::Book;
 use table_samples::presence;
 use valid_writes::SeatBook;
 
@@ -67,7 +68,7 @@ fn read(book: &mut SeatBook, word: u32) -> Result<(), Stop>
     requires { IsFresh book.old }
     ensures { OnOk result (IsBusy book.new) }
 {
-    match book.read(&presence(), word) {
+    match touch_by(book, &presence(), word) {
         Ok(_) => Ok(()),
         Err(fault) => Err(Stop::from(fault)),
     }

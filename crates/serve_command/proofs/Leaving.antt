@@ -11,7 +11,7 @@ use Rattle.choice_stream.specs.Seeds.{Draws, stream_front}
 use Rattle.turn_lock.specs.Passes.{PassValue, Joined, lists_of}
 use Rattle.history_core.specs.declared.event.Event.{Event}
 use Rattle.history_core.specs.Chronicle.{Chronicle}
-use Rattle.history_core.specs.Book.{Past}
+use Rattle.history_book.specs.Book.{Past}
 use Rattle.doors.specs.Passage.{Passage, IsUnused}
 use Rattle.door_workers.specs.Visits.{AreVisits, events_of_visits, went_of, came_of}
 use Rattle.door_workers.specs.declared.worker.Worker.{Worker}

@@ -9,7 +9,7 @@ use Rattle.history_core.specs.Events.{session_in, is_open_event, opened}
 use Rattle.history_core.specs.Chronicle.{own_events}
 use Rattle.history_core.specs.declared.fault.BookFault.{BookFault}
 use Rattle.history_core.specs.declared.fault.BookFault.TheVariants as faults
-use Rattle.history_core.specs.Book.{Past, SessionState, no_session, session_of}
+use Rattle.history_book.specs.Book.{Past, SessionState, no_session, session_of}
 use Rattle.block_machine.specs.Calls.{Call}
 use Rattle.block_machine.specs.Calls as calls
 use Rattle.block_machine.specs.declared.call.Answer.{Answer}

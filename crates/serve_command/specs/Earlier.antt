@@ -6,7 +6,7 @@ use Rattle.choice_stream.specs.Seeds.{Draws}
 use Rattle.sql_tree.specs.declared.table.Table.{Table}
 use Rattle.history_core.specs.declared.event.Event.{Event}
 use Rattle.history_core.specs.Chronicle.{Chronicle}
-use Rattle.history_core.specs.Book.{Past}
+use Rattle.history_book.specs.Book.{Past}
 use Rattle.block_machine.specs.Calls.{Call}
 use Rattle.block_machine.specs.Script.{Entry}
 use Rattle.session_core.specs.Record.{IsValidRecord}

@@ -9,7 +9,7 @@ use Rattle.door_workers.specs.Workers.{Worked, post_of}
 use Rattle.door_workers.specs.declared.worker.Worker.{Worker}
 use Rattle.shared_book.specs.declared.entry.Entry.{Entry}
 use Rattle.shared_book.specs.Books.{BookValue, fresh_book, past_of, Stays}
-use Rattle.history_core.specs.Book.{no_session}
+use Rattle.history_book.specs.Book.{no_session}
 
 -- a worker that begins: a book of this pass, the words of this stream of the seed, and room for so many outcomes
 pub record Begins {D : Type 0} (pass : PassValue Entry) (seed accept stream : ℕ) (door : D) (worker : Worker BookValue D ChaCha) : Type 0 where

@@ -5,7 +5,7 @@ use Rattle.rand_chacha.specs.ChaCha.{ChaCha}
 use Rattle.choice_stream.specs.Seeds.{Draws, stream_front}
 use Rattle.history_core.specs.declared.event.Event.{Event}
 use Rattle.history_core.specs.Chronicle.{Chronicle}
-use Rattle.history_core.specs.Book.{Past, no_session}
+use Rattle.history_book.specs.Book.{Past, no_session}
 use Rattle.link_traits.specs.declared.host.HostFault.{HostFault}
 use Rattle.link_traits.specs.declared.host.HostFault.TheVariants as faults
 use Rattle.session_core.specs.Record.{events_of}

@@ -20,11 +20,12 @@ use command_line::{Progress as Verbosity, ServeOptions};
 use door_workers::{Progress, serve_doors};
 use doors::Network;
 use held_values::without;
-use host_calls::Status;
+use host_calls::{Object, Status, tell_fault as tell, tell_memory};
 use link_traits::{Host, HostFault};
 use log_file::log_and_print;
 use shared_book::{Pass, Shared};
 use std::alloc::Global;
+use std::io;
 use std::sync::Wait;
 use std::thread::Threads;
 use valid_writes::Store;
@@ -125,17 +126,73 @@ fn status_after(fault: Option<HostFault>, status: Status) -> Status
     }
 }
 
-// Tells on standard error where the log couldn't be made or written, of which the status alone would say little.
-fn tell_log<R: Eprint>(rt: &R, options: &ServeOptions, code: u8) {
-    let Some(path) = &options.log else {
-        return;
-    };
-    let path = path.as_str();
-    let _ = match code {
-        4 => eprintln!(rt; "the log at {path} or the line after it couldn't be written whole"),
-        6 => eprintln!(rt; "the log couldn't be made at {path}"),
-        _ => Ok(()),
-    };
+// The log that is asked for, and the output where none is.
+fn log_of(options: &ServeOptions) -> Object<'_> {
+    match &options.log {
+        Some(path) => Object::of_option("--log ", path.as_str()),
+        None => Object::named("standard output"),
+    }
+}
+
+// What is written at the end: the log, where one is asked for, and the line.
+fn written_of(options: &ServeOptions) -> Object<'_> {
+    match &options.log {
+        Some(path) => Object {
+            before: "--log ",
+            name: path.as_str(),
+            after: ", or standard output",
+        },
+        None => Object::named("standard output"),
+    }
+}
+
+// Tells on standard error why the workers ended before their time, or where the log or the line couldn't be written.
+fn tell_conclusion<R: Eprint>(
+    rt: &R,
+    alloc: Global,
+    options: &ServeOptions,
+    fault: Option<HostFault>,
+    reason: Option<io::Error>,
+    code: u8,
+) {
+    match (fault, code) {
+        (Some(HostFault::Memory), _) | (None, 5) => tell_memory(rt, "serve"),
+        (Some(HostFault::Failed), _) => {
+            let address = Object::named(options.listen.as_str());
+            tell(
+                rt,
+                alloc,
+                "serve",
+                address,
+                None,
+                "accepting a connection failed",
+            );
+        }
+        (None, 4) => tell(
+            rt,
+            alloc,
+            "serve",
+            written_of(options),
+            reason,
+            "a write failed",
+        ),
+        (None, 6) => tell(
+            rt,
+            alloc,
+            "serve",
+            log_of(options),
+            reason,
+            "it can't be made",
+        ),
+        _ => {}
+    }
+}
+
+// Tells on standard error that memory ran out before a door was opened. Where the system opened none, the network has told why.
+fn tell_unopened<R: Eprint>(rt: &R, fault: HostFault) {
+    if fault == HostFault::Memory {
+        tell_memory(rt, "serve");
+    }
 }
 
 // The status of a server that opened no door.
@@ -162,7 +219,7 @@ fn conclude<R: Eprint, H: Host>(
     ensures none_out { objects_out (H.hosted host.new) ≡ 0 }
 {
     let status = end(alloc, host, options, &store);
-    tell_log(rt, options, status.code);
+    tell_conclusion(rt, alloc, options, fault, host.reason(), status.code);
     without(store, status_after(fault, status))
 }
 
@@ -187,7 +244,11 @@ fn serve_shared<R: Threads + Wait + Eprint + Sync, H: Host, N: Network>(
             let store = shared.finish(pass);
             conclude(rt, alloc, host, options, store, fault)
         }
-        Err(fault) => without((shared, pass), status_unopened(fault)),
+        Err(fault) => {
+            let status = without((shared, pass), status_unopened(fault));
+            tell_unopened(rt, fault);
+            status
+        }
     }
 }
 
@@ -207,7 +268,11 @@ fn serve_with<R: Threads + Wait + Eprint + Sync, H: Host, N: Network>(
 {
     match Shared::new(alloc, store) {
         Ok((shared, pass)) => serve_shared(rt, alloc, host, network, options, shared, pass),
-        Err(back) => without(back, Status { code: 5 }),
+        Err(back) => {
+            let status = without(back, Status { code: 5 });
+            tell_memory(rt, "serve");
+            status
+        }
     }
 }
 
@@ -218,7 +283,7 @@ fn serve_with<R: Threads + Wait + Eprint + Sync, H: Host, N: Network>(
 /// The status is 0 where all was written whole; 1 where the setup failed, or left more than a history begins with; 3 where reading its file
 /// failed; 4 where a write failed; 5 where memory ran out, before a door was opened, at a worker's accept or at the end; and 6 where the file of
 /// the setup couldn't be opened, no doors were opened, accepting a link failed, or the file of the log couldn't be made. A link that fails, or
-/// whose session runs out of memory, changes no status. What is wrong with the setup is told in one line on standard error.
+/// whose session runs out of memory, changes no status. Where the status isn't 0, one line on standard error tells the cause.
 pub fn serve<R: Threads + Wait + Eprint + Sync, H: Host, N: Network>(
     rt: &R,
     alloc: Global,
@@ -234,7 +299,7 @@ pub fn serve<R: Threads + Wait + Eprint + Sync, H: Host, N: Network>(
     match start(alloc, host, options) {
         Ok(store) => serve_with(rt, alloc, host, network, options, store),
         Err(fault) => {
-            tell_fault(rt, &fault);
+            tell_fault(rt, alloc, options, host.reason(), &fault);
             status_of(&fault)
         }
     }

@@ -8,10 +8,11 @@ use cell_base::{Level, Memory, Text};
 use command_line::ServeOptions;
 use committed_rows::start_after;
 use history_core::InitialState;
-use host_calls::{FileFault, Status, read_file};
+use host_calls::{FileFault, Object, Status, read_file, tell_fault as tell, tell_memory};
 use link_traits::Host;
 use setup_session::{MOST_TEXT, SetupFault, run_setup};
 use std::alloc::Global;
+use std::io;
 use thiserror::Error;
 use valid_writes::Store;
 
@@ -19,13 +20,13 @@ use valid_writes::Store;
 #[derive(Debug, Drop, Error)]
 pub enum StartFault {
     /// The file of the setup wasn't read whole.
-    #[error("setup: {0}")]
+    #[error("{0}")]
     File(FileFault),
     /// The setup failed.
-    #[error("setup: {0}")]
+    #[error("{0}")]
     Setup(SetupFault),
     /// What the setup left is more than a history begins with.
-    #[error("setup: it leaves more rows than a history begins with")]
+    #[error("it leaves more rows than a history begins with")]
     Heavy,
     /// Out of memory.
     #[error("out of memory")]
@@ -135,7 +136,39 @@ pub fn status_of(fault: &StartFault) -> Status
     Status { code }
 }
 
-/// Tells on standard error why a server didn't start, in one line.
-pub fn tell_fault<R: Eprint>(rt: &R, fault: &StartFault) {
-    let _ = eprintln!(rt; "{fault}");
+// Tells that the file of the setup wasn't read whole.
+fn tell_file<R: Eprint>(
+    rt: &R,
+    alloc: Global,
+    path: &str,
+    reason: Option<io::Error>,
+    fault: FileFault,
+) {
+    let file = Object::of_option("--setup ", path);
+    match fault {
+        FileFault::Open => tell(rt, alloc, "serve", file, reason, "it can't be opened"),
+        FileFault::Read => tell(rt, alloc, "serve", file, reason, "a read failed"),
+        FileFault::Memory => tell_memory(rt, "serve"),
+    }
+}
+
+/// Tells on standard error why a server didn't start, in one line. The host has kept what the system said.
+pub fn tell_fault<R: Eprint>(
+    rt: &R,
+    alloc: Global,
+    options: &ServeOptions,
+    reason: Option<io::Error>,
+    fault: &StartFault,
+) {
+    let path = match &options.setup {
+        Some(path) => path.as_str(),
+        None => "",
+    };
+    match fault {
+        StartFault::File(fault) => tell_file(rt, alloc, path, reason, *fault),
+        StartFault::Memory | StartFault::Setup(SetupFault::Memory) => tell_memory(rt, "serve"),
+        StartFault::Setup(_) | StartFault::Heavy => {
+            let _ = eprintln!(rt; "serve: --setup {path}: {fault}");
+        }
+    }
 }

@@ -1,4 +1,4 @@
-// The commands `sim` and `check`, and words that are no command.
+// The commands `sim`, `check` and `judge`, help, and words that are no command.
 use crate::hosts::{Done, run, run_wordless, with_file};
 use cell_base::Memory;
 use std::alloc::Global;
@@ -8,7 +8,7 @@ use std::thread::Threads;
 
 // What is printed where the words are no command.
 const USAGE: &str =
-    "usage: monkeydb pipe LEVEL WORDS | serve [OPTIONS] | check PATH | sim LEVEL SEED SESSIONS QUERIES | stop [ADDRESS]\n";
+    "usage: monkeydb pipe LEVEL WORDS | serve [OPTIONS] | check [--wide] PATH | sim LEVEL SEED SESSIONS QUERIES | stop [ADDRESS] | judge PATH\n";
 
 // Runs a command of a host that has one file, of the path `log`.
 fn beside_log<R: Threads + Wait + Eprint + Sync>(
@@ -75,8 +75,50 @@ fn simulates_again(rt: HostRuntime) -> Result<(), Fail> {
 #[test]
 fn checks_a_log(rt: HostRuntime) -> Result<(), Fail> {
     let alloc = rt.alloc();
-    for (line, code, printed) in [("check/log", 0, "ok\n"), ("check/logs", 6, "")] {
+    let lines = [
+        ("check/log", 0, "ok\n"),
+        ("check/--wide/log", 0, "ok\n"),
+        ("check/log/--wide", 0, "ok\n"),
+        ("check/logs", 6, ""),
+        ("check/--wide/logs", 6, ""),
+        ("judge/log", 0, "judge cc\norder 0\n"),
+        ("judge/logs", 6, ""),
+    ];
+    for (line, code, printed) in lines {
         assert!(rt; prints(&rt, alloc, line, code, printed.as_bytes())?);
+    }
+    Ok(())
+}
+
+// What is asked about the program, and what the answer begins with.
+const QUESTIONS: [(&str, &str); 9] = [
+    ("--help", "monkeydb: a mock SQL server"),
+    ("help", "monkeydb: a mock SQL server"),
+    ("pipe/--help", "monkeydb pipe LEVEL WORDS: "),
+    ("serve/--help", "monkeydb serve [OPTIONS]: "),
+    ("check/--help", "monkeydb check [--wide] PATH: "),
+    ("judge/--help", "monkeydb judge PATH: "),
+    ("sim/--help", "monkeydb sim LEVEL SEED SESSIONS QUERIES: "),
+    ("stop/--help", "monkeydb stop [ADDRESS]: "),
+    ("--version", "monkeydb 0.1.0, logs of version 3\n"),
+];
+
+// Whether a question is answered by a text with this beginning, with status 0.
+fn answers_so<R: Threads + Wait + Eprint + Sync>(
+    rt: &R,
+    alloc: Global,
+    line: &str,
+    beginning: &str,
+) -> Result<bool, Memory> {
+    let done = beside_log(rt, alloc, line)?;
+    Ok(done.code == 0 && done.printed.as_slice().starts_with(beginning.as_bytes()))
+}
+
+#[test]
+fn answers_questions(rt: HostRuntime) -> Result<(), Fail> {
+    let alloc = rt.alloc();
+    for (line, beginning) in QUESTIONS {
+        assert!(rt; answers_so(&rt, alloc, line, beginning)?);
     }
     Ok(())
 }
@@ -118,7 +160,14 @@ const NO_COMMANDS: &[&str] = &[
     "sim/cc/7/1/1/1",
     "check",
     "check/log/log",
-    "judge/log",
+    "check/--wide",
+    "check/--wide=true/log",
+    "judge",
+    "judge/log/log",
+    "judge/--wide/log",
+    "help/serve",
+    "serve/--help/--quiet",
+    "--version/--help",
     "",
     "pipe/rc",
     "serve/--workers",

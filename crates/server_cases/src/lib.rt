@@ -27,7 +27,7 @@ mod loopback;
 #[cfg(test)]
 mod meeting;
 #[cfg(test)]
-mod meeting_words;
+mod meeting_book;
 #[cfg(test)]
 mod servers;
 #[cfg(test)]

@@ -3,22 +3,22 @@
 // A server that runs sessions one after another, in whichever order, never gets there, and neither does one that holds the history over a
 // whole statement. No contract speaks of the order in which threads run.
 ghost use Rattle.std.specs.Prelude.{◌≡◌, ◌+◌, ◌≤◌, IfOk, vec_len, vec_capacity};
-ghost use Rattle.history_core.specs.Book.{no_session};
+ghost use Rattle.history_book.specs.Book.{no_session};
 ghost use Rattle.doors.specs.Passage.{IsUnused};
 ghost use Rattle.doors.specs.MemDoors.{mem_passage};
-ghost use Rattle.shared_book.specs.Books.{past_of};
 ghost use Rattle.door_workers.specs.Workers.{IsReady, post_of};
 
-use crate::meeting_words::{MeetingWords, meeting_words};
+use crate::meeting_book::{MeetingBook, Ones, meeting_book};
 use cell_base::{Items, Level, Memory};
 use choice_stream::ListWords;
 use door_workers::{Progress, Worker, serve_doors};
 use doors::MemDoor;
+use history_book::Book;
 use history_core::InitialState;
 use link_traits::{MemLink, MemPlan};
 use session_core::serve_link;
 use session_text::{Unread, reply_bytes, request_bytes};
-use shared_book::{Shared, SharedBook};
+use shared_book::Shared;
 use std::alloc::Global;
 use std::sync::Wait;
 use std::sync::atomic::AtomicBool;
@@ -123,17 +123,16 @@ fn prepared(alloc: Global, client: &[u8]) -> Result<Store, Memory> {
 fn worker<'a, R: Wait>(
     alloc: Global,
     client: &[u8],
-    book: SharedBook<'a, R>,
-    words: MeetingWords<'a>,
-) -> Result<Worker<SharedBook<'a, R>, MemDoor, MeetingWords<'a>>, Memory>
-    requires { book.state ≡ no_session }
-    ensures ready { IfOk result (λ worker. IsReady (post_of past_of mem_passage worker)) }
+    book: MeetingBook<'a, R>,
+) -> Result<Worker<MeetingBook<'a, R>, MemDoor, Ones>, Memory>
+    requires { book.book.state ≡ no_session }
+    ensures ready { IfOk result (λ worker. IsReady (post_of ⟦<MeetingBook<'a, R> as Book>⟧.past mem_passage worker)) }
     ensures room { IfOk result (λ worker. vec_len worker.served + worker.accept ≤ vec_capacity worker.served) }
 {
     Ok(Worker {
         book,
         door: door(alloc, client)?,
-        words,
+        words: Ones,
         accept: 1,
         served: Vec::with_capacity(alloc, 1)?,
         fault: None,
@@ -168,21 +167,19 @@ fn meet<R: Threads + Wait + Eprint + Sync>(
     let one = worker(
         alloc,
         &reader.client,
-        shared.book(rt, pass),
-        meeting_words(&first, &second),
+        meeting_book(shared.book(rt, pass), &first, &second),
     )?;
     let two = worker(
         alloc,
         &reader.client,
-        shared.book(rt, other),
-        meeting_words(&second, &first),
+        meeting_book(shared.book(rt, other), &second, &first),
     )?;
     let mut workers = [one, two];
     serve_doors(rt, alloc, Level::Cc, Progress::Silent, &mut workers);
     let [one, two] = &workers;
     Ok((
-        came_of(one, reader, one.words.met),
-        came_of(two, reader, two.words.met),
+        came_of(one, reader, one.book.met),
+        came_of(two, reader, two.book.met),
     ))
 }
 

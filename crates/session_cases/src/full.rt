@@ -1,12 +1,12 @@
 // A history that has as many sessions as it may.
 ghost use Rattle.std.specs.Prelude.{◌≡◌};
-ghost use Rattle.history_core.specs.Book.{no_session};
+ghost use Rattle.history_book.specs.Book.{no_session};
 
 use crate::links::failing_link;
 use crate::serving::{new_book, serve};
 use cell_base::SqlState;
 use held_values::without;
-use history_core::Book;
+use history_book::Book;
 use link_traits::MemLink;
 use session_core::End;
 use session_text::{Session, read_sessions};

@@ -1,6 +1,6 @@
 // Sessions served over links in memory.
 ghost use Rattle.std.specs.Prelude.{◌≡◌, IfOk};
-ghost use Rattle.history_core.specs.Book.{no_session};
+ghost use Rattle.history_book.specs.Book.{no_session};
 
 use cell_base::{Items, Level, Memory};
 use choice_stream::ListWords;

@@ -1,7 +1,7 @@
 -- The calls of a book, and where they leave its session.
-use Rattle.std.proofs.Common.{◌≡◌, ◌≤◌, ◌+◌, ℕ, List, [], ◌∷◌, length, refl, sym, ◌∙◌, ap, subst, arith, Some, length-append, ◌++◌, inl, inr, append_assoc}
-use Rattle.std.proofs.lemmas.List.Elements.{All-tail, All-append}
-use Rattle.std.specs.Prelude.{◌≢◌, ◌⊎◌, All, true, false}
+use Rattle.std.proofs.Common.{◌≡◌, ◌≤◌, ◌+◌, ℕ, List, [], ◌∷◌, length, refl, sym, ◌∙◌, ap, subst, arith, Some, length-append, ◌++◌, inl, inr, Ok, Err}
+use Rattle.std.proofs.lemmas.List.Elements.{All-tail}
+use Rattle.std.specs.Prelude.{◌⊎◌, All, true, false}
 use Rattle.cell_base.specs.declared.cell.Cell.{Cell}
 use Rattle.cell_base.specs.declared.cell.Cell.TheVariants.{Presence, Field}
 use Rattle.cell_base.specs.declared.value.Value.{Value}
@@ -16,7 +16,7 @@ use Rattle.history_core.specs.declared.fault.BookFault.TheVariants as faults
 use Rattle.history_core.specs.declared.fault.DefineAnswer.{DefineAnswer}
 use Rattle.history_core.specs.declared.fault.DefineAnswer.TheVariants as defines
 use Rattle.history_core.specs.Chronicle.{Chronicle, IsFormedChronicle, IsLegalChronicle}
-use Rattle.history_core.specs.Book.{AnswersTables, AnswersDefine, Past, SessionState, no_session, in_session, pending, Adds, GoesOn, IsIdle, HasSession, IsInTransaction, IsUnwritten, HasWrite, LastWrite, session_of}
+use Rattle.history_book.specs.Book.{AnswersTables, AnswersDefine, AnswersTouch, Past, SessionState, no_session, in_session, pending, GoesOn, IsIdle, HasSession, IsInTransaction, IsUnwritten, HasWrite, LastWrite, session_of}
 use Rattle.history_core.proofs.TablesFew.{tables_few}
 use Rattle.statement_course.specs.Course.{Course, scan, touch, write, done, first_demand}
 use Rattle.statement_course.specs.Laws.{ReadsFirst, table_number}
@@ -95,39 +95,31 @@ look_fits c p q known tables is a legal =
       sound_after a.before tables (subst (λ (ts : List Table). All IsSound ts) a.whole legal.tables.sound),
     )
 
--- ---- a call after the question whether a cell was written
+-- ---- a touch of a cell
 
-All-both : {A : Type 0} (P : A → Type 0) (xs ys : List A) → All P xs → All P ys → All P (xs ++ ys)
-All-both P xs ys h k = All-append P xs ys h k
+-- a touch that was answered, by an own read or by a read
+pub found_plays : {W : Type 0} (gives : W → ℕ → W → Type 0) (p : Past) (v : W) (cell : Cell) (value : Value) (q : Past) (w : W) →
+    AnswersTouch gives p v cell (Ok value) q w → (x : Event) × Plays gives p v (calls.Touch cell) (answers.Found value) x q w
+found_plays gives p v cell value q w (inl (back, same)) = (
+  Own (session_of p.state) cell value,
+  ((inl (record { written = back.written; last = back.last; event_is = refl }), back.ok), inl (back.written, same)),
+)
+found_plays gives p v cell value q w (inr (word, drawn, read)) =
+    let one = read.ok in (
+      Read (session_of p.state) cell one.source one.count word value,
+      (
+        (inr (record { unwritten = read.unwritten; source = one.source; count = one.count; word = word; event_is = refl }), one.adds),
+        inr (read.unwritten, (word, drawn, refl)),
+      ),
+    )
 
-goes_on_later : (p m q : Past) → GoesOn p m → GoesOn m q → GoesOn p q
-goes_on_later p m q g h = record {
-  level = h.level ∙ g.level;
-  initial = h.initial ∙ g.initial;
-  others = g.others ++ h.others;
-  seen = h.seen ∙ ap (λ (x : List Event). x ++ h.others) g.seen ∙ append_assoc p.seen.events g.others h.others;
-  foreign = All-both (λ (x : Event). session_in x ≢ session_of p.state) g.others h.others g.foreign
-      (subst (λ (s : SessionState). All (λ (x : Event). session_in x ≢ session_of s) h.others) g.state h.foreign);
-  more = g.more ++ h.more;
-  tables = h.tables ∙ ap (λ (x : List Table). x ++ h.more) g.tables ∙ append_assoc p.seen.tables g.more h.more;
-  own = h.own ∙ g.own;
-  state = h.state ∙ g.state;
-}
+-- and what one draws that was refused
+pub refused_draws : {W : Type 0} (gives : W → ℕ → W → Type 0) (p : Past) (v : W) (cell : Cell) (why : BookFault) (q : Past) (w : W) →
+    AnswersTouch gives p v cell (Err why) q w → Draws gives p v (calls.Touch cell) (refused why) w
+refused_draws gives p v cell why q w (inl (back, same)) = inl (back.written, same)
+refused_draws gives p v cell why q w (inr (word, drawn, read)) = inr (read.unwritten, (word, drawn, tt))
 
-adds_later : (p m q : Past) (e : Event) → GoesOn p m → session_in e ≡ session_of p.state → Adds m e q → Adds p e q
-adds_later p m q e g same h = record {
-  level = h.level ∙ g.level;
-  initial = h.initial ∙ g.initial;
-  others = g.others ++ h.others;
-  seen = h.seen ∙ ap (λ (x : List Event). x ++ h.others ++ e ∷ []) g.seen
-      ∙ ap (λ (x : List Event). x ++ e ∷ []) (append_assoc p.seen.events g.others h.others);
-  foreign = All-both (λ (x : Event). session_in x ≢ session_in e) g.others h.others
-      (subst (λ (n : ℕ). All (λ (x : Event). session_in x ≢ n) g.others) (sym same) g.foreign) h.foreign;
-  more = g.more ++ h.more;
-  tables = h.tables ∙ ap (λ (x : List Table). x ++ h.more) g.tables ∙ append_assoc p.seen.tables g.more h.more;
-  own = h.own ∙ ap (λ (x : List Event). x ++ e ∷ []) g.own;
-}
-
+-- what was read at one state was read at a state that is the same
 pub reads_later : (p m : Past) (cell : Cell) (value : Value) (e : Event) → m.state ≡ p.state → ReadsBack m cell value e
     ⊎ ReadsFrom m cell value e → ReadsBack p cell value e ⊎ ReadsFrom p cell value e
 reads_later p m cell value e same (inl h) = inl (record {
@@ -147,28 +139,6 @@ pub reads_session : (p : Past) (cell : Cell) (value : Value) (e : Event) → Rea
     session_in e ≡ session_of p.state
 reads_session p cell value e (inl h) = ap session_in h.event_is
 reads_session p cell value e (inr h) = ap session_in h.event_is
-
-draws_later : {W : Type 0} (gives : W → ℕ → W → Type 0) (p m : Past) (v : W) (cell : Cell) (x : Entry) (w : W) → m.state ≡ p.state →
-    Draws gives m v (calls.Touch cell) x w → Draws gives p v (calls.Touch cell) x w
-draws_later gives p m v cell x w same (inl (h, k)) = inl (subst (λ (s : SessionState). HasWrite cell s) same h, k)
-draws_later gives p m v cell x w same (inr (h, k)) = inr (subst (λ (s : SessionState). IsUnwritten cell s) same h, k)
-
--- a read of a cell, where others may have gone on before it
-pub touch_later : {W : Type 0} (gives : W → ℕ → W → Type 0) (p m : Past) (v : W) (cell : Cell) (a : Answer) (e : Event) (q : Past) (w : W) →
-    GoesOn p m → Plays gives m v (calls.Touch cell) a e q w → Plays gives p v (calls.Touch cell) a e q w
-touch_later gives p m v cell (answers.Refused (faults.Full limit)) e q w g ((may, goes, full, fresh), draws) =
-    ((may, goes_on_later p m q g goes, full, fresh), draws_later gives p m v cell (refused (faults.Full limit)) w g.state draws)
-touch_later gives p m v cell (answers.Refused faults.Memory) e q w g ((may, goes), draws) =
-    ((may, goes_on_later p m q g goes), draws_later gives p m v cell (refused faults.Memory) w g.state draws)
-touch_later gives p m v cell (answers.Found value) e q w g ((reads, adds), draws) = (
-  (
-    reads_later p m cell value e g.state reads,
-    adds_later p m q e g
-        (reads_session p cell value e (reads_later p m cell value e g.state reads)) adds,
-  ),
-  draws_later gives p m v cell (did (answers.Found value) e) w g.state draws,
-)
-touch_later gives p m v cell _ e q w g h = absurd h.0
 
 -- ---- what may be asked
 

@@ -7,7 +7,7 @@ use Rattle.cell_base.specs.declared.level.Level.{Level}
 use Rattle.link_traits.specs.Faults.{Rose}
 use Rattle.link_traits.specs.Traffic.{Traffic, Took, Wrote, Both, Sight}
 use Rattle.history_core.specs.declared.event.Event.{Event}
-use Rattle.history_core.specs.Book.{Past, SessionState, no_session, in_session, pending}
+use Rattle.history_book.specs.Book.{Past, SessionState, no_session, in_session, pending}
 use Rattle.block_machine.specs.Calls.{Call}
 use Rattle.block_machine.specs.Calls as calls
 use Rattle.block_machine.specs.Script.{Entry, ended, short, unsent, stop, more, has_short}

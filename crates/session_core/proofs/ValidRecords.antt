@@ -5,7 +5,7 @@ use Rattle.history_core.specs.declared.event.Event.{Event}
 use Rattle.history_core.specs.declared.fault.BookFault.{BookFault}
 use Rattle.history_core.specs.declared.fault.BookFault.TheVariants as faults
 use Rattle.history_core.specs.declared.fault.DefineAnswer.TheVariants as defines
-use Rattle.history_core.specs.Book.{Past, Adds, GoesOn}
+use Rattle.history_book.specs.Book.{Past, Adds, GoesOn}
 use Rattle.block_machine.specs.Calls.{Call}
 use Rattle.block_machine.specs.Calls as calls
 use Rattle.block_machine.specs.declared.call.Answer.{Answer}

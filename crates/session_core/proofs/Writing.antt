@@ -6,7 +6,7 @@ use Rattle.statement_course.specs.declared.demand.Demand.{Demand}
 use Rattle.statement_course.specs.declared.demand.Demand.TheVariants as demands
 use Rattle.history_core.specs.declared.event.Event.{Event}
 use Rattle.history_core.specs.declared.event.Event.TheVariants.{Write}
-use Rattle.history_core.specs.Book.{Past, session_of}
+use Rattle.history_book.specs.Book.{Past, session_of}
 use Rattle.block_machine.specs.Calls.{call_for}
 use Rattle.block_machine.specs.Calls as calls
 use Rattle.block_machine.specs.Stages.{Fits}

@@ -4,7 +4,7 @@ use Rattle.sound_table.specs.Sound.{IsSound}
 use Rattle.history_core.specs.declared.event.Event.{Event}
 use Rattle.history_core.specs.Events.{table_of}
 use Rattle.history_core.specs.Initial.{IsStorable}
-use Rattle.history_core.specs.Book.{SessionState, no_session, in_session, pending, Past, HasSession, IsIdle, IsInTransaction, HasTable}
+use Rattle.history_book.specs.Book.{SessionState, no_session, in_session, pending, Past, HasSession, IsIdle, IsInTransaction, HasTable}
 use Rattle.block_machine.specs.Calls.{Call}
 use Rattle.block_machine.specs.Calls as calls
 use Rattle.block_machine.specs.Script.{did, refused}

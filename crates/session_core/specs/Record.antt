@@ -11,7 +11,7 @@ use Rattle.history_core.specs.declared.fault.BookFault.TheVariants as faults
 use Rattle.history_core.specs.declared.fault.DefineAnswer.TheVariants as defines
 use Rattle.history_core.specs.Events.{begun, names}
 use Rattle.history_core.specs.Legal.{full_for, full_load}
-use Rattle.history_core.specs.Book.{Past, SessionState, no_session, in_session, pending, IsUnwritten, HasWrite, LastWrite, session_of, writes_of, Adds, GoesOn, AnswersTables, AnswersDefine}
+use Rattle.history_book.specs.Book.{Past, SessionState, no_session, in_session, pending, IsUnwritten, HasWrite, LastWrite, session_of, writes_of, Adds, GoesOn, AnswersTables, AnswersDefine}
 use Rattle.block_machine.specs.Calls.{Call}
 use Rattle.block_machine.specs.Calls as calls
 use Rattle.block_machine.specs.declared.call.Answer.{Answer}

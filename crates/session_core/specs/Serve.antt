@@ -3,7 +3,7 @@ use Rattle.std.specs.Prelude.{◌≡◌, ◌⊎◌, Contains, ℕ, ◌+◌, ◌<
 use Rattle.cell_base.specs.declared.level.Level.{Level}
 use Rattle.link_traits.specs.Faults.{Rose}
 use Rattle.link_traits.specs.Traffic.{Traffic, Both, Sight}
-use Rattle.history_core.specs.Book.{Past}
+use Rattle.history_book.specs.Book.{Past}
 use Rattle.block_machine.specs.Calls.{Call}
 use Rattle.block_machine.specs.Script.{Entry, unsent, more, ended, has_short}
 use Rattle.block_machine.specs.declared.end.End.{End}

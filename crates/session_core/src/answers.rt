@@ -21,7 +21,8 @@ use crate::stage::{Finish, SessionReply, SessionStage};
 use crate::turns::{SessionStep, Shortage, advance, at_rest, owed_by, phase_after_reply};
 use block_machine::{Answer, MessageRunner, Owed, Written};
 use cell_base::Memory;
-use history_core::{Book, BookFault};
+use history_book::Book;
+use history_core::BookFault;
 use std::alloc::Global;
 
 // The step after a reply of a message that runs.

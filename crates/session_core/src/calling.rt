@@ -16,8 +16,7 @@ use crate::calls::{ask, call, define};
 use crate::session::Session;
 use crate::want::Want;
 use block_machine::Answer;
-use history_core::Book;
-use link_traits::Words;
+use history_book::{Book, Words};
 use statement_course::Demand;
 
 // Whether the session wants a write.

@@ -6,7 +6,7 @@ ghost use Rattle.statement_course.specs.declared.demand.Demand.TheVariants as de
 ghost use Rattle.sound_table.specs.Sound.{IsSound};
 ghost use Rattle.history_core.specs.declared.event.Event.{Event};
 ghost use Rattle.history_core.specs.Chronicle.{IsLegalChronicle};
-ghost use Rattle.history_core.specs.Book.{HasSession, IsUnwritten, HasWrite};
+ghost use Rattle.history_book.specs.Book.{HasSession};
 ghost use Rattle.block_machine.specs.Calls as calls;
 ghost use Rattle.block_machine.specs.Calls.{asks_cells, call_for, call_of};
 ghost use Rattle.block_machine.specs.Stages.{Fits};
@@ -15,8 +15,7 @@ ghost use Rattle.session_core.specs.Plays.{MayAsk, Plays};
 
 use block_machine::{Answer, Call};
 use cell_base::Cell;
-use history_core::Book;
-use link_traits::Words;
+use history_book::{Book, Words};
 use sql_tree::Table;
 use statement_course::Demand;
 
@@ -77,40 +76,7 @@ pub fn call<B: Book, W: Words>(book: &mut B, words: &W, c: Call) -> Answer
     }
 }
 
-// Reads a cell of which nothing is pending. A word is drawn before the read.
-fn read<B: Book, W: Words>(book: &mut B, words: &mut W, cell: &Cell) -> Answer
-    requires may { MayAsk (calls.Touch cell.now) (B.past book.old) }
-    requires unwritten { IsUnwritten cell.now (B.past book.old).state }
-    ensures fits { Fits (calls.Touch cell.now) result }
-    ensures plays { (e : Event) × Plays W.gives (B.past book.old) words.old (calls.Touch cell.now) result e (B.past book.new) words.new }
-    ensures state { StateAfter (calls.Touch cell.now) result (B.past book.old).state (B.past book.new).state }
-    ensures legal { IsLegalChronicle (B.past book.old).seen → IsLegalChronicle (B.past book.new).seen }
-    ensures stays { B.stays book.old book.new }
-{
-    let word = words.next();
-    match book.read(cell, word) {
-        Ok(value) => Answer::Found(value),
-        Err(why) => Answer::Refused(why),
-    }
-}
-
-// Reads a cell back that the pending transaction wrote.
-fn own<B: Book, W: Words>(book: &mut B, words: &W, cell: &Cell) -> Answer
-    requires may { MayAsk (calls.Touch cell.now) (B.past book.old) }
-    requires written { HasWrite cell.now (B.past book.old).state }
-    ensures fits { Fits (calls.Touch cell.now) result }
-    ensures plays { (e : Event) × Plays W.gives (B.past book.old) words.now (calls.Touch cell.now) result e (B.past book.new) words.now }
-    ensures state { StateAfter (calls.Touch cell.now) result (B.past book.old).state (B.past book.new).state }
-    ensures legal { IsLegalChronicle (B.past book.old).seen → IsLegalChronicle (B.past book.new).seen }
-    ensures stays { B.stays book.old book.new }
-{
-    match book.own(cell) {
-        Ok(value) => Answer::Found(value),
-        Err(why) => Answer::Refused(why),
-    }
-}
-
-// Reads a cell: what the pending transaction wrote to it, or else from the history.
+// Reads a cell: what the pending transaction wrote to it, or else from the history, by a word that the book draws.
 fn touch<B: Book, W: Words>(book: &mut B, words: &mut W, cell: &Cell) -> Answer
     requires may { MayAsk (calls.Touch cell.now) (B.past book.old) }
     ensures fits { Fits (calls.Touch cell.now) result }
@@ -119,10 +85,9 @@ fn touch<B: Book, W: Words>(book: &mut B, words: &mut W, cell: &Cell) -> Answer
     ensures legal { IsLegalChronicle (B.past book.old).seen → IsLegalChronicle (B.past book.new).seen }
     ensures stays { B.stays book.old book.new }
 {
-    if book.wrote(cell) {
-        own(book, words, cell)
-    } else {
-        read(book, words, cell)
+    match book.touch(words, cell) {
+        Ok(value) => Answer::Found(value),
+        Err(why) => Answer::Refused(why),
     }
 }
 

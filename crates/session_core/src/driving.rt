@@ -15,8 +15,8 @@ ghost use Rattle.cell_base.specs.declared.level.Level.{Level};
 use crate::calling::make_call;
 use crate::session::Session;
 use crate::want::Want;
-use history_core::Book;
-use link_traits::{Link, Words, send_all};
+use history_book::{Book, Words};
+use link_traits::{Link, send_all};
 
 // Sends a reply. Answers whether it was sent whole.
 fn send_whole<L: Link>(link: &mut L, reply: &[u8]) -> bool

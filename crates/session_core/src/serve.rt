@@ -1,7 +1,7 @@
 // Serves a session over a link.
 ghost use Rattle.std.specs.Prelude.{◌≡◌, ℕ, ◌+◌, ◌<◌, ◌≤◌, List, [], length, IfOk};
 ghost use Rattle.history_core.specs.Chronicle.{IsLegalChronicle};
-ghost use Rattle.history_core.specs.Book.{no_session};
+ghost use Rattle.history_book.specs.Book.{no_session};
 ghost use Rattle.link_traits.specs.Traffic.{sight_of};
 ghost use Rattle.block_machine.specs.Calls.{Call as Asked};
 ghost use Rattle.block_machine.specs.Knowledge.{at_start};
@@ -23,8 +23,8 @@ use crate::session::Session;
 use crate::want::Want;
 use block_machine::{End, Stop};
 use cell_base::{Level, Memory};
-use history_core::Book;
-use link_traits::{Link, Words};
+use history_book::{Book, Words};
+use link_traits::Link;
 use std::alloc::Global;
 
 /// The greatest number of bytes that are read from a link.

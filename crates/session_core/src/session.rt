@@ -33,7 +33,7 @@ use crate::want::Want;
 use block_machine::{Answer, Call, End, MessageRunner, Stop};
 use cell_base::{Level, Memory};
 use client_framing::Frames;
-use history_core::Book;
+use history_book::Book;
 use sql_tree::Table;
 use statement_course::Demand;
 use std::alloc::Global;

@@ -11,7 +11,7 @@ use Rattle.history_core.specs.Events.{session_in}
 use Rattle.history_core.specs.Transactions.{HasPending}
 use Rattle.history_core.specs.Legal.{IsOpen}
 use Rattle.history_core.specs.Chronicle.{Chronicle, IsLegalChronicle}
-use Rattle.history_core.specs.Book.{Past, SessionState, no_session, in_session, pending, HasSession, session_of}
+use Rattle.history_book.specs.Book.{Past, SessionState, no_session, in_session, pending, HasSession, session_of}
 use Rattle.valid_writes.specs.Desk.{given_events, last_writes}
 use Rattle.valid_writes.specs.Owning.{OwnsAllThatComes}
 use Rattle.valid_writes.specs.Seats.{StandsIn}

@@ -9,7 +9,7 @@ use Rattle.history_core.specs.declared.fault.BookFault.{BookFault}
 use Rattle.history_core.specs.declared.fault.BookFault.TheVariants as faults
 use Rattle.history_core.specs.declared.fault.DefineAnswer.TheVariants as defines
 use Rattle.history_core.specs.Events.{session_in}
-use Rattle.history_core.specs.Book.{Past, SessionState, no_session, in_session, pending, HasSession, IsIdle, IsInTransaction, IsUnwritten, HasWrite, session_of, GoesOn, Adds}
+use Rattle.history_book.specs.Book.{Past, SessionState, no_session, in_session, pending, HasSession, IsIdle, IsInTransaction, IsUnwritten, HasWrite, session_of, GoesOn, Adds}
 use Rattle.valid_writes.specs.Owning.{OwnsAllThatComes}
 use Rattle.block_machine.specs.Calls.{Call}
 use Rattle.block_machine.specs.Calls as calls

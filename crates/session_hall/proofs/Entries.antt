@@ -8,7 +8,7 @@ use Rattle.block_machine.specs.declared.end.End.{End}
 use Rattle.block_machine.specs.declared.end.Stop.TheVariants as stops
 use Rattle.block_machine.specs.Calls.{Call}
 use Rattle.block_machine.specs.Script.{Entry, did, refused, short, unsent, stop}
-use Rattle.history_core.specs.Book.{Past}
+use Rattle.history_book.specs.Book.{Past}
 use Rattle.session_core.specs.Told.{opened_from}
 use Rattle.session_core.specs.Record.{IsValidRecord, events_of}
 use Rattle.session_core.specs.Steps.{IsShort}

@@ -7,7 +7,7 @@ use Rattle.sql_tree.specs.declared.table.Table.{Table}
 use Rattle.history_core.specs.declared.event.Event.{Event}
 use Rattle.history_core.specs.Events.{session_in}
 use Rattle.history_core.specs.Chronicle.{Chronicle}
-use Rattle.history_core.specs.Book.{Past, SessionState, session_of, GoesOn, Adds}
+use Rattle.history_book.specs.Book.{Past, SessionState, session_of, GoesOn, Adds}
 
 -- nothing has gone on
 pub goes_same : (p : Past) → GoesOn p p

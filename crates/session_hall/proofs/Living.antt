@@ -8,7 +8,7 @@ use Rattle.history_core.specs.declared.event.Event.TheVariants.{Open}
 use Rattle.history_core.specs.Events.{session_in, opened}
 use Rattle.history_core.specs.Legal.{IsFormed, MayCome, Follows}
 use Rattle.history_core.specs.Chronicle.{Chronicle, IsLegalChronicle, own_events}
-use Rattle.history_core.specs.Book.{Past, SessionState, no_session, in_session, pending, HasSession, session_of, GoesOn}
+use Rattle.history_book.specs.Book.{Past, SessionState, no_session, in_session, pending, HasSession, session_of, GoesOn}
 use Rattle.history_core.proofs.Prefixes.{formed_back}
 use Rattle.valid_writes.specs.Desk.{given_events}
 use Rattle.valid_writes.specs.Owning.{OwnsAllThatComes}

@@ -5,7 +5,7 @@ use Rattle.std.proofs.lemmas.List.{take-append-drop}
 use Rattle.cell_base.specs.declared.level.Level.{Level}
 use Rattle.choice_stream.specs.Choices.{DrawsFirst}
 use Rattle.history_core.specs.Chronicle.{Chronicle}
-use Rattle.history_core.specs.Book.{no_session}
+use Rattle.history_book.specs.Book.{no_session}
 use Rattle.block_machine.specs.Calls.{Call}
 use Rattle.block_machine.specs.Calls as calls
 use Rattle.block_machine.specs.Script.{Entry, did, refused, short, unsent, stop, Next, more, call, ended}

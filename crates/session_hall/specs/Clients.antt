@@ -3,7 +3,7 @@ use Rattle.std.specs.Prelude.{◌≡◌, ◌≢◌, ◌⊎◌, ℕ, List, [], �
 use Rattle.cell_base.specs.declared.level.Level.{Level}
 use Rattle.choice_stream.specs.Choices.{DrawsFirst}
 use Rattle.history_core.specs.Chronicle.{Chronicle}
-use Rattle.history_core.specs.Book.{Past, GoesOn, no_session}
+use Rattle.history_book.specs.Book.{Past, GoesOn, no_session}
 use Rattle.valid_writes.specs.Desk.{given_events}
 use Rattle.valid_writes.specs.Beginnings.{no_past}
 use Rattle.block_machine.specs.Calls.{Call}

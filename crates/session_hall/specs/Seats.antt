@@ -5,7 +5,7 @@ use Rattle.cell_base.specs.declared.level.Level.{Level}
 use Rattle.choice_stream.specs.Choices.{DrawsFirst}
 use Rattle.history_core.specs.declared.event.Event.TheVariants.{Open}
 use Rattle.history_core.specs.Chronicle.{Chronicle, IsLegalChronicle}
-use Rattle.history_core.specs.Book.{Past, HasSession, GoesOn, no_session, session_of}
+use Rattle.history_book.specs.Book.{Past, HasSession, GoesOn, no_session, session_of}
 use Rattle.valid_writes.specs.Desk.{given_events}
 use Rattle.valid_writes.specs.Seats.{StandsIn}
 use Rattle.valid_writes.specs.Beginnings.{no_past}

@@ -81,8 +81,7 @@ impl Hall {
         })
     }
 
-    /// Lets a client go on until its session has made one call of its book other than whether it wrote a cell, or has ended; all that is
-    /// then due is sent. `Ended` comes exactly where the client has ended. Where room for a reply can't be had the answer is an error: that
+    /// Lets a client go on until its session has made one call of its book, or has ended; all that is then due is sent. `Ended` comes exactly where the client has ended. Where room for a reply can't be had the answer is an error: that
     /// client's session is stopped as by a failed write, leaves its book, and its end is `Memory`.
     pub fn step(&mut self, client: u32) -> Result<Stepped, Memory>
         requires hall { IsHall self.old }

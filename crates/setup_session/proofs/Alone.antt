@@ -3,7 +3,7 @@ use Rattle.std.proofs.Common.{◌≡◌, ℕ, List, [], ◌++◌, Some, refl, sy
 use Rattle.cell_base.specs.declared.level.Level.TheVariants as levels
 use Rattle.link_traits.specs.Traffic.{Traffic, Sight}
 use Rattle.history_core.specs.Chronicle.{IsLegalChronicle}
-use Rattle.history_core.specs.Book.{Past, no_session}
+use Rattle.history_book.specs.Book.{Past, no_session}
 use Rattle.session_core.specs.declared.served.Served.{Served}
 use Rattle.session_core.specs.Serve.{Scene, scene_of, Account, Serves}
 use Rattle.session_core.proofs.ValidRecords.{keeps_start}

@@ -3,7 +3,7 @@ use Rattle.std.specs.Prelude.{◌≡◌, ◌≢◌, ◌≤◌, ◌<◌, ℕ, Lis
 use Rattle.cell_base.specs.declared.level.Level.TheVariants as levels
 use Rattle.link_traits.specs.Traffic.{Traffic, Sight}
 use Rattle.history_core.specs.Chronicle.{Chronicle, IsLegalChronicle}
-use Rattle.history_core.specs.Book.{Past, no_session}
+use Rattle.history_book.specs.Book.{Past, no_session}
 use Rattle.block_machine.specs.declared.end.End.TheVariants as ends
 use Rattle.session_core.specs.declared.served.Served.{Served}
 use Rattle.session_core.specs.Record.{events_of}

@@ -12,7 +12,7 @@ use Rattle.history_core.specs.declared.event.Event.TheVariants.{Open}
 use Rattle.history_core.specs.Events.{session_in, opened, defined, defined_name}
 use Rattle.history_core.specs.Legal.{IsFormed, Follows}
 use Rattle.history_core.specs.Chronicle.{Chronicle, IsLegalChronicle}
-use Rattle.history_core.specs.Book.{Past, SessionState, no_session, in_session, pending, HasSession, session_of}
+use Rattle.history_book.specs.Book.{Past, SessionState, no_session, in_session, pending, HasSession, session_of}
 use Rattle.history_core.proofs.TablesFew.{formed_of, tables_defined}
 use Rattle.history_core.proofs.Prefixes.{formed_back}
 use Rattle.valid_writes.specs.Desk.{last_writes}

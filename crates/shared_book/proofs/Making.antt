@@ -12,7 +12,7 @@ use Rattle.history_core.specs.declared.fault.BookFault.{BookFault}
 use Rattle.history_core.specs.declared.fault.DefineAnswer.{DefineAnswer}
 use Rattle.history_core.specs.declared.fault.DefineAnswer.TheVariants.{Defined, Taken}
 use Rattle.history_core.specs.Events.{session_in}
-use Rattle.history_core.specs.Book.{Past, SessionState, no_session, in_session, pending, HasSession, IsIdle, IsInTransaction, session_of, GoesOn, Adds, AnswersDefine}
+use Rattle.history_book.specs.Book.{Past, SessionState, no_session, in_session, pending, HasSession, IsIdle, IsInTransaction, session_of, GoesOn, Adds, AnswersDefine, AnswersTouch}
 use Rattle.valid_writes.specs.Owning.{OwnsAllThatComes}
 use Rattle.shared_book.specs.declared.place.Place.{Place}
 use Rattle.shared_book.specs.declared.place.Place.TheVariants.{NoSession, InSession, Pending}
@@ -103,6 +103,16 @@ module _ (old new : Past) (alone : OwnsAllThatComes old new) where
   told_or_none (Ok a) P told adds goes has state =
       let one = adds a told in one_added one.0 one.2 has one.1 (λ is. ap session_of state)
   told_or_none (Err fault) P told adds goes has state = none_added goes
+
+  -- a cell was touched, or that was refused
+  pub touched_or_none : {W : Type 0} (gives : W → ℕ → W → Type 0) (v : W) (cell : Cell) (r : Result Value BookFault) (w : W) →
+      AnswersTouch gives old v cell r new w → OnErr r (GoesOn old new) → HasSession old.state → new.state ≡ old.state → AddsOne old new
+  touched_or_none gives v cell (Ok value) w (inl (back, same)) goes has state =
+      one_added (events.Own (session_of old.state) cell value) back.ok has refl (λ is. ap session_of state)
+  touched_or_none gives v cell (Ok value) w (inr (word, drawn, read)) goes has state =
+      let one = read.ok in
+      one_added (events.Read (session_of old.state) cell one.source one.count word value) one.adds has refl (λ is. ap session_of state)
+  touched_or_none gives v cell (Err fault) w answers goes has state = none_added goes
 
   pub defined_event : (table : Table) (answer : DefineAnswer) → AnswersDefine old table answer new →
       (e : Event) × (session_in e ≡ session_of old.state) × Adds old e new

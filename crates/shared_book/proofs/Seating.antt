@@ -5,7 +5,7 @@ use Rattle.history_core.specs.declared.event.Event.{Event}
 use Rattle.history_core.specs.Transactions.{HasPending}
 use Rattle.history_core.specs.Legal.{IsOpen}
 use Rattle.history_core.specs.Chronicle.{Chronicle, IsLegalChronicle}
-use Rattle.history_core.specs.Book.{Past, SessionState, no_session, in_session, pending}
+use Rattle.history_book.specs.Book.{Past, SessionState, no_session, in_session, pending}
 use Rattle.valid_writes.specs.Desk.{last_writes}
 use Rattle.valid_writes.specs.Seats.{StandsIn}
 use Rattle.shared_book.specs.declared.place.Place.{Place}

@@ -3,7 +3,7 @@ use Rattle.std.specs.Prelude.{◌≡◌, List}
 use Rattle.std.proofs.Common.{refl, ◌∙◌}
 use mathlib.Core.List.{IsPrefix}
 use Rattle.history_core.specs.Chronicle.{Chronicle, IsLegalChronicle}
-use Rattle.history_core.specs.Book.{Past, SessionState, no_session, in_session, pending}
+use Rattle.history_book.specs.Book.{Past, SessionState, no_session, in_session, pending}
 use Rattle.valid_writes.specs.Seats.{StandsIn}
 use Rattle.turn_lock.specs.Passes.{LockValue, PassValue}
 use Rattle.turn_lock.specs.Entries.{HasKey, IsComplete}

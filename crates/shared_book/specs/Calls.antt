@@ -1,5 +1,6 @@
--- What each call of a book does, clause by clause as the trait says it: of the past before, the answer and the past after.
-use Rattle.std.specs.Prelude.{◌≡◌, ◌≢◌, ◌↔◌, ℕ, Bool, false, IsTrue, List, [], ◌∷◌, ◌++◌, length, Some, Result, Err, IfOk, OnOk, OnErr, Contains}
+-- What each call of a book does, clause by clause as the trait says it: of the past before, the answer and the past after. A touch also of
+-- the words before and after.
+use Rattle.std.specs.Prelude.{◌≡◌, ◌≢◌, ℕ, List, [], ◌∷◌, ◌++◌, length, Some, Result, Err, IfOk, OnOk, OnErr, Contains}
 use Rattle.cell_base.specs.declared.cell.Cell.{Cell}
 use Rattle.cell_base.specs.declared.key.Key.{Key}
 use Rattle.cell_base.specs.declared.level.Level.{Level}
@@ -12,8 +13,8 @@ use Rattle.history_core.specs.declared.fault.DefineAnswer.{DefineAnswer}
 use Rattle.history_core.specs.declared.fault.Limit.{Limit}
 use Rattle.history_core.specs.declared.fault.Limit.TheVariants as limits
 use Rattle.history_core.specs.Events.{begun, names}
-use Rattle.history_core.specs.Legal.{full_for, full_load}
-use Rattle.history_core.specs.Book.{Past, no_session, in_session, pending, session_of, writes_of, HasWrite, IsUnwritten, LastWrite, IsKeyList, GoesOn, Adds, AddsRead, AnswersTables, AnswersDefine}
+use Rattle.history_core.specs.Legal.{IsKeyList, full_for, full_load}
+use Rattle.history_book.specs.Book.{Past, no_session, in_session, pending, session_of, writes_of, GoesOn, Adds, AnswersTables, AnswersDefine, AnswersTouch}
 
 -- the call was refused as full only where the history has reached its load
 abbrev pub IsFullByLoad : {A : Type 0} → Result A BookFault → Past → Type 0
@@ -56,20 +57,9 @@ pub record Scans (table : ℕ) (old : Past) (result : Result (List Key) BookFaul
   pub err : OnErr result (GoesOn old new)
   pub full : IsFullByLoad result new
 
-pub record TellsWrote (cell : Cell) (old : Past) (result : Bool) (new : Past) : Type 0 where
-  pub answer : IsTrue result ↔ HasWrite cell old.state
-  pub unwritten : result ≡ false → IsUnwritten cell old.state
-  pub goes_on : GoesOn old new
-
-pub record ReadsOwn (cell : Cell) (old : Past) (result : Result Value BookFault) (new : Past) : Type 0 where
-  pub ok : IfOk result (λ value. Adds old (events.Own (session_of old.state) cell value) new)
-  pub last : IfOk result (λ value. LastWrite cell value old.state)
-  pub state : new.state ≡ old.state
-  pub err : OnErr result (GoesOn old new)
-  pub full : IsFullByLoad result new
-
-pub record Reads (cell : Cell) (word : ℕ) (old : Past) (result : Result Value BookFault) (new : Past) : Type 0 where
-  pub ok : IfOk result (λ value. AddsRead old cell word value new)
+pub record Touches {W : Type 0} (gives : W → ℕ → W → Type 0) (cell : Cell) (old : Past) (before : W) (result : Result Value BookFault) (new : Past)
+    (after : W) : Type 0 where
+  pub answers : AnswersTouch gives old before cell result new after
   pub state : new.state ≡ old.state
   pub err : OnErr result (GoesOn old new)
   pub full : IsFullByLoad result new

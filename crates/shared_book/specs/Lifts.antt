@@ -1,6 +1,6 @@
 -- What a call does within a turn it does also for a book that has seen less of the history, and has other events of its own.
-use Rattle.std.specs.Prelude.{◌≡◌, ◌≤◌, ◌<◌, ℕ, Bool, List, [], ◌∷◌, ◌++◌, length, Contains, Result, Ok, Err, IfOk, OnOk, OnErr}
-use Rattle.std.proofs.Common.{sym, ap, ◌∙◌, subst, append_assoc}
+use Rattle.std.specs.Prelude.{◌≡◌, ◌≤◌, ◌<◌, ℕ, List, [], ◌∷◌, ◌++◌, length, Contains, Result, Ok, Err, IfOk, OnOk, OnErr}
+use Rattle.std.proofs.Common.{sym, ap, ◌∙◌, subst, append_assoc, inl, inr}
 use Rattle.std.proofs.lemmas.List.{append-nil, append_cancel_left}
 use Rattle.std.proofs.lemmas.List.Elements.{Contains-push}
 use Rattle.std.proofs.Math.Nat.{le_trans, lt_of_lt_of_le}
@@ -17,9 +17,9 @@ use Rattle.history_core.specs.declared.event.Event.TheVariants as events
 use Rattle.history_core.specs.Chronicle.{Chronicle}
 use Rattle.history_core.specs.Events.{table_of}
 use Rattle.history_core.specs.Initial.{IsStorable}
-use Rattle.history_core.specs.Book.{Past, SessionState, HasSession, IsInTransaction, IsUnwritten, session_of, GoesOn, Adds, AddsRead, AnswersTables, AnswersDefine}
+use Rattle.history_book.specs.Book.{Past, SessionState, HasSession, IsInTransaction, session_of, GoesOn, Adds, AddsRead, AnswersTables, AnswersDefine, AnswersTouch}
 use Rattle.shared_book.specs.Turns.{LiesBetween, past_with}
-use Rattle.shared_book.specs.Calls.{Opens, Closes, Looks, Defines, Begins, Scans, TellsWrote, ReadsOwn, Reads, Writes, Commits, RollsBack, Shows}
+use Rattle.shared_book.specs.Calls.{Opens, Closes, Looks, Defines, Begins, Scans, Touches, Writes, Commits, RollsBack, Shows}
 
 if_ok : {A E : Type 0} (P Q : A → Type 0) (r : Result A E) → ((a : A) → P a → Q a) → IfOk r P → IfOk r Q
 if_ok P Q (Ok a) f h = f a h
@@ -137,27 +137,35 @@ module _ (before x y : Chronicle) (own mine added : List Event) (state after : S
     full = does.full;
   }
 
-  pub wrote_lift : (cell : Cell) (r : Bool) → TellsWrote cell found r left → TellsWrote cell old r new
-  wrote_lift cell r does = record { answer = does.answer; unwritten = does.unwritten; goes_on = goes_lift does.goes_on }
+  touch_lift : {W : Type 0} (gives : W → ℕ → W → Type 0) (v : W) (cell : Cell) (r : Result Value BookFault) (w : W) →
+      AnswersTouch gives found v cell r left w → AnswersTouch gives old v cell r new w
+  touch_lift gives v cell r w (inl (back, same)) = inl (
+    record {
+      written = back.written;
+      ok = if_ok (λ value. Adds found (events.Own (session_of state) cell value) left) (λ value. Adds old (events.Own (session_of state) cell value) new) r
+          (λ value adds. adds_lift (events.Own (session_of state) cell value) adds) back.ok;
+      last = back.last;
+    },
+    same,
+  )
+  touch_lift gives v cell r w (inr (word, drawn, read)) = inr (
+    word,
+    drawn,
+    record {
+      unwritten = read.unwritten;
+      ok = if_ok (λ value. AddsRead found cell word value left) (λ value. AddsRead old cell word value new) r
+          (λ value one. record {
+            source = one.source;
+            count = one.count;
+            adds = adds_lift (events.Read (session_of state) cell one.source one.count word value) one.adds;
+          }) read.ok;
+    },
+  )
 
-  pub own_lift : (cell : Cell) (r : Result Value BookFault) → ReadsOwn cell found r left → ReadsOwn cell old r new
-  own_lift cell r does = record {
-    ok = if_ok (λ value. Adds found (events.Own (session_of state) cell value) left) (λ value. Adds old (events.Own (session_of state) cell value) new) r
-        (λ value adds. adds_lift (events.Own (session_of state) cell value) adds) does.ok;
-    last = does.last;
-    state = does.state;
-    err = err_lift r does.err;
-    full = does.full;
-  }
-
-  pub reads_lift : (cell : Cell) (word : ℕ) (r : Result Value BookFault) → Reads cell word found r left → Reads cell word old r new
-  reads_lift cell word r does = record {
-    ok = if_ok (λ value. AddsRead found cell word value left) (λ value. AddsRead old cell word value new) r
-        (λ value read. record {
-          source = read.source;
-          count = read.count;
-          adds = adds_lift (events.Read (session_of state) cell read.source read.count word value) read.adds;
-        }) does.ok;
+  pub touches_lift : {W : Type 0} (gives : W → ℕ → W → Type 0) (cell : Cell) (v : W) (r : Result Value BookFault) (w : W) →
+      Touches gives cell found v r left w → Touches gives cell old v r new w
+  touches_lift gives cell v r w does = record {
+    answers = touch_lift gives v cell r w does.answers;
     state = does.state;
     err = err_lift r does.err;
     full = does.full;
@@ -196,9 +204,9 @@ pub in_table_later : (table few many : ℕ) (state : SessionState) → few ≤ m
     IsInTransaction state × (table < many)
 in_table_later table few many state le may = (may.0, lt_of_lt_of_le may.1 le)
 
-pub reads_later : (cell : Cell) (few many : ℕ) (state : SessionState) → few ≤ many →
-    IsInTransaction state × IsUnwritten cell state × (table_of cell < few) → IsInTransaction state × IsUnwritten cell state × (table_of cell < many)
-reads_later cell few many state le may = (may.0, may.1, lt_of_lt_of_le may.2 le)
+pub touches_later : (cell : Cell) (few many : ℕ) (state : SessionState) → few ≤ many → IsInTransaction state × (table_of cell < few) →
+    IsInTransaction state × (table_of cell < many)
+touches_later cell few many state le may = (may.0, lt_of_lt_of_le may.1 le)
 
 pub writes_later : (cell : Cell) (value : Value) (few many : ℕ) (state : SessionState) → few ≤ many →
     IsInTransaction state × IsStorable value × (table_of cell < few) → IsInTransaction state × IsStorable value × (table_of cell < many)

@@ -2,7 +2,7 @@
 use Rattle.std.specs.Prelude.{◌≡◌, ℕ, List, Option, Some, None, Result, Ok, Err}
 use Rattle.history_core.specs.declared.event.Event.{Event}
 use Rattle.history_core.specs.declared.fault.BookFault.{BookFault}
-use Rattle.history_core.specs.Book.{SessionState, no_session, in_session, pending}
+use Rattle.history_book.specs.Book.{SessionState, no_session, in_session, pending}
 use Rattle.valid_writes.specs.Desk.{last_writes}
 use Rattle.shared_book.specs.declared.place.Place.{Place}
 use Rattle.shared_book.specs.declared.place.Place.TheVariants.{NoSession, InSession, Pending}

@@ -5,7 +5,7 @@ use Rattle.history_core.specs.declared.event.Event.{Event}
 use Rattle.history_core.specs.declared.event.Event.TheVariants.{Open}
 use Rattle.history_core.specs.Events.{session_in}
 use Rattle.history_core.specs.Chronicle.{Chronicle, IsLegalChronicle}
-use Rattle.history_core.specs.Book.{Past, SessionState, HasSession, session_of}
+use Rattle.history_book.specs.Book.{Past, SessionState, HasSession, session_of}
 use Rattle.valid_writes.specs.Seats.{StandsIn}
 use Rattle.shared_book.specs.declared.entry.Entry.{Entry}
 use Rattle.shared_book.specs.declared.place.Place.{Place}

@@ -1,18 +1,17 @@
 // The book of one session of a shared history.
 ghost use Rattle.std.specs.Prelude.{◌≡◌, length};
 ghost use Rattle.history_core.specs.Chronicle.{IsLegalChronicle};
-ghost use Rattle.history_core.specs.Book.{no_session};
+ghost use Rattle.history_book.specs.Book.{no_session};
 ghost use Rattle.shared_book.specs.Entries.{chronicle_of};
 ghost use Rattle.shared_book.specs.Books.{StartsLegal, HasSeenLegal, fresh_book, past_of, Stays};
 
-use crate::calls::{
-    Begin, Close, Commit, Define, Look, Open, Own, Read, Rollback, Scan, Show, Write, Wrote,
-};
+use crate::calls::{Begin, Close, Commit, Define, Look, Open, Rollback, Scan, Show, Touch, Write};
 use crate::kept::Kept;
 use crate::place::Place;
 use crate::seat::{AtSeat, SeatCall};
 use cell_base::{Cell, Items, Key, Level, Value};
-use history_core::{Book, BookFault, DefineAnswer};
+use history_book::{Book, Words};
+use history_core::{BookFault, DefineAnswer};
 use sql_tree::Table;
 use std::marker::Model;
 use std::sync::Wait;
@@ -61,10 +60,10 @@ impl<'a, R: Wait> SharedBook<'a, R> {
         }
     }
 
-    // Makes the call in one turn.
-    fn turn<C: SeatCall>(&mut self, call: C) -> C::Answer
+    // Makes the call in one turn, with what is lent it.
+    fn turn<B, C: SeatCall<B>>(&mut self, call: C, beside: &mut B) -> C::Answer
         requires { C.may call (length (chronicle_of self.old.pass.seen).tables) self.old.state }
-        ensures does { C.does call (past_of self.old) result (past_of self.new) }
+        ensures does { C.does call (past_of self.old) beside.old result (past_of self.new) beside.new }
         ensures legal { HasSeenLegal self.new.pass }
         ensures stays { Stays self.old self.new }
     {
@@ -72,7 +71,7 @@ impl<'a, R: Wait> SharedBook<'a, R> {
             place: self.place,
             call,
         };
-        let (place, answer) = self.lock.with_turn(self.rt, &mut self.pass, at);
+        let (place, answer) = self.lock.with_turn(self.rt, &mut self.pass, at, beside);
         self.place = place;
         answer
     }
@@ -94,55 +93,47 @@ impl<'a, R: Wait> Book for SharedBook<'a, R> {
     ghost stays = { Stays };
 
     fn open(&mut self) -> Result<u32, BookFault> {
-        self.turn(Open)
+        self.turn(Open, &mut ())
     }
 
     fn close(&mut self) {
-        self.turn(Close);
+        self.turn(Close, &mut ());
     }
 
     fn look(&mut self, known: u32) -> Result<Items<Table>, BookFault> {
-        self.turn(Look { known })
+        self.turn(Look { known }, &mut ())
     }
 
     fn define(&mut self, table: &Table) -> Result<DefineAnswer, BookFault> {
-        self.turn(Define { table })
+        self.turn(Define { table }, &mut ())
     }
 
     fn begin(&mut self, level: Level) -> Result<u32, BookFault> {
-        self.turn(Begin { level })
+        self.turn(Begin { level }, &mut ())
     }
 
     fn scan(&mut self, table: u32) -> Result<Items<Key>, BookFault> {
-        self.turn(Scan { table })
+        self.turn(Scan { table }, &mut ())
     }
 
-    fn wrote(&mut self, cell: &Cell) -> bool {
-        self.turn(Wrote { cell })
-    }
-
-    fn own(&mut self, cell: &Cell) -> Result<Value, BookFault> {
-        self.turn(Own { cell })
-    }
-
-    fn read(&mut self, cell: &Cell, word: u32) -> Result<Value, BookFault> {
-        self.turn(Read { cell, word })
+    fn touch<W: Words>(&mut self, words: &mut W, cell: &Cell) -> Result<Value, BookFault> {
+        self.turn(Touch { cell }, words)
     }
 
     fn write(&mut self, cell: Cell, value: Value) -> Result<(), BookFault> {
-        self.turn(Write { cell, value })
+        self.turn(Write { cell, value }, &mut ())
     }
 
     fn commit(&mut self) {
-        self.turn(Commit);
+        self.turn(Commit, &mut ());
     }
 
     fn rollback(&mut self) {
-        self.turn(Rollback);
+        self.turn(Rollback, &mut ());
     }
 
     fn show(&mut self) -> Result<u32, BookFault> {
-        self.turn(Show)
+        self.turn(Show, &mut ())
     }
 
     ghost stays_same = { stays_same };

@@ -3,13 +3,15 @@ ghost use Rattle.std.specs.Prelude.{◌≡◌, OnOk};
 ghost use Rattle.sound_table.specs.Sound.{IsSound};
 ghost use Rattle.history_core.specs.Events.{table_of};
 ghost use Rattle.history_core.specs.Initial.{IsStorable};
-ghost use Rattle.history_core.specs.Book.{no_session, IsIdle};
+ghost use Rattle.history_book.specs.Book.{no_session, IsIdle};
 ghost use Rattle.shared_book.specs.Books.{past_of};
 ghost use Rattle.seat_samples.specs.SessionStates.{IsReady, IsFresh, IsBusy};
 ghost use Rattle.shared_cases.specs.Passes.{SamePass};
 
 use cell_base::{Cell, Level, Value};
-use history_core::{Book, BookFault};
+use history_book::Book;
+use history_core::BookFault;
+use seat_samples::touch_by;
 use shared_book::SharedBook;
 use sql_tree::Table;
 use std::sync::Wait;
@@ -77,7 +79,7 @@ pub fn read<R: Wait>(
     ensures fresh { OnOk result (IsFresh (past_of book.new)) }
     ensures pass { SamePass book.old.pass book.new.pass }
 {
-    book.read(cell, word)
+    touch_by(book, cell, word)
 }
 
 /// Writes a cell.

@@ -1,7 +1,7 @@
 // Two books on one history: in one thread by turns, and in two threads.
 ghost use Rattle.std.specs.Prelude.{◌≡◌, ◌+◌, IfOk, OnOk};
 ghost use Rattle.sound_table.specs.Sound.{IsSound};
-ghost use Rattle.history_core.specs.Book.{no_session, IsIdle};
+ghost use Rattle.history_book.specs.Book.{no_session, IsIdle};
 ghost use Rattle.shared_book.specs.Books.{past_of};
 ghost use Rattle.seat_samples.specs.SessionStates.{IsReady, IsFresh, IsBusy};
 ghost use Rattle.shared_cases.specs.Passes.{SamePass, ArePassesOf};

@@ -8,7 +8,7 @@ use crate::query::{Query, drawn};
 use crate::streams::{put_create_table, put_query_message, put_startup, put_terminate};
 use cell_base::Memory;
 use choice_stream::SeedWords;
-use link_traits::Words;
+use history_book::Words;
 use session_hall::Client;
 use std::alloc::Global;
 

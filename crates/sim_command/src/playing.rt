@@ -6,7 +6,7 @@ ghost use Rattle.sim_command.specs.Playing.{Goes, IsStepOf, IsPicked, AreNone};
 
 use cell_base::Memory;
 use choice_stream::SeedWords;
-use link_traits::Words;
+use history_book::Words;
 use session_hall::{Hall, Stepped};
 use thiserror::Error;
 

@@ -2,14 +2,15 @@
 ghost use Rattle.std.specs.Prelude.{◌≡◌};
 ghost use Rattle.history_core.specs.Events.{table_of};
 ghost use Rattle.history_core.specs.Transactions.{HasPending};
-ghost use Rattle.history_core.specs.Book.{IsInTransaction, HasTable};
+ghost use Rattle.history_book.specs.Book.{IsInTransaction, HasTable};
 
 use crate::keys::are_integers;
 use crate::start::stage;
 use cell_base::{Cell, Level, Value};
 use held_values::{kept, let_go};
-use history_core::{Book, BookFault, Event};
-use seat_samples::{Stop, busy_seat, idle_seat, misplaced, unlike};
+use history_book::Book;
+use history_core::{BookFault, Event};
+use seat_samples::{Stop, busy_seat, idle_seat, misplaced, touch_by, unlike};
 use std::alloc::Global;
 use table_samples::Spot;
 use valid_writes::{SeatBook, Store};
@@ -213,26 +214,21 @@ fn reads(book: &mut SeatBook, cell: &Cell, word: u32, want: &Value) -> Result<bo
     requires table { HasTable book.old 0 }
     requires cell { table_of cell.now ≡ 0 }
 {
-    if book.wrote(cell) {
-        return Ok(false);
-    }
-    Ok(book.read(cell, word)?.is_same(want))
+    Ok(touch_by(book, cell, word)?.is_same(want))
 }
 
 /// Reads what the transaction has written to the cell. No where it hasn't, or another value is told.
 fn own(book: &mut SeatBook, spot: Spot, number: i64) -> Result<bool, BookFault>
-    requires { IsInTransaction book.old.state }
+    requires pending { IsInTransaction book.old.state }
+    requires table { HasTable book.old 0 }
 {
-    owns(book, &spot.cell(), &spot.value(number))
+    let reads = reads(book, &spot.cell(), 0, &spot.value(number));
+    Ok(reads? && is_own(book))
 }
 
-fn owns(book: &mut SeatBook, cell: &Cell, want: &Value) -> Result<bool, BookFault>
-    requires { IsInTransaction book.old.state }
-{
-    if !book.wrote(cell) {
-        return Ok(false);
-    }
-    Ok(book.own(cell)?.is_same(want))
+/// Whether the last event is an own read.
+fn is_own(book: &SeatBook) -> bool {
+    matches!(book.history().events().last(), Some(Event::Own { .. }))
 }
 
 /// Whether the last event is a read that takes the one of the offered writes that the word picks.

@@ -1,12 +1,13 @@
 // Calls of a store's sessions, one a function.
 ghost use Rattle.history_core.specs.Events.{table_of};
-ghost use Rattle.history_core.specs.Book.{IsInTransaction, HasTable};
+ghost use Rattle.history_book.specs.Book.{IsInTransaction, HasTable};
 ghost use Rattle.seat_samples.specs.SessionStates.{IsBusy};
 
 use cell_base::{Cell, Level};
 use held_values::{kept, let_go, without};
-use history_core::{Book, BookFault, Limit};
-use seat_samples::{Stop, busy_seat, idle_seat};
+use history_book::Book;
+use history_core::{BookFault, Limit};
+use seat_samples::{Stop, busy_seat, idle_seat, touch_by};
 use table_samples::Spot;
 use valid_writes::{SeatBook, Store};
 
@@ -102,9 +103,5 @@ fn see_cell(book: &mut SeatBook, cell: &Cell, word: u32) -> Result<(), BookFault
     requires pending { IsInTransaction book.old.state }
     requires table { HasTable book.old (table_of cell.now) }
 {
-    if book.wrote(cell) {
-        let_go(book.own(cell))
-    } else {
-        let_go(book.read(cell, word))
-    }
+    let_go(touch_by(book, cell, word))
 }

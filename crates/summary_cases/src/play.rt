@@ -2,7 +2,8 @@
 use crate::steps::{Step, act};
 use cell_base::Level;
 use held_values::{kept, let_go};
-use history_core::{Book, InitialState};
+use history_book::Book;
+use history_core::InitialState;
 use seat_samples::{Stop, busy_seat, idle_seat, open_next, with_table};
 use std::alloc::Global;
 use valid_writes::Store;

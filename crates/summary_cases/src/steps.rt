@@ -5,8 +5,9 @@ ghost use Rattle.seat_samples.specs.SessionStates.{IsBusy};
 
 use cell_base::{Cell, Value};
 use held_values::{let_go, without};
-use history_core::{Book, BookFault};
-use seat_samples::{Stop, misplaced};
+use history_book::Book;
+use history_core::BookFault;
+use seat_samples::{Stop, misplaced, touch_by};
 use table_samples::{field, presence};
 use valid_writes::SeatBook;
 
@@ -58,7 +59,7 @@ fn told(came: Result<(), BookFault>) -> Result<(), Stop> {
     Ok(came?)
 }
 
-/// Reads a cell, which the transaction hasn't written.
+/// Reads a cell.
 fn read(book: &mut SeatBook, cell: Cell, word: u32) -> Result<(), Stop>
     requires busy { IsBusy book.old }
     requires table { table_of cell ≡ 0 }
@@ -71,8 +72,5 @@ fn read_at(book: &mut SeatBook, cell: &Cell, word: u32) -> Result<(), Stop>
     requires busy { IsBusy book.old }
     requires table { table_of cell.now ≡ 0 }
 {
-    if book.wrote(cell) {
-        return Err(misplaced(book.history()));
-    }
-    Ok(let_go(book.read(cell, word))?)
+    Ok(let_go(touch_by(book, cell, word))?)
 }

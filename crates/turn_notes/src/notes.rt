@@ -50,7 +50,7 @@ impl Logged for Notes {
 /// Adds the first note of a new writer, and answers its number. `None` when out of memory or of numbers.
 pub struct Start;
 
-impl Turn<Notes> for Start {
+impl Turn<Notes, ()> for Start {
     type Answer = Option<u64>;
 
     ghost use Rattle.std.specs.Prelude.{◌≡◌, ◌∷◌, ◌++◌, [], MatchOption};
@@ -58,9 +58,9 @@ impl Turn<Notes> for Start {
 
     ghost needs = { λ _ _. Unit {0} };
 
-    ghost does = { λ _ x by y. MatchOption by (y.notes.items ≡ x.notes.items) (λ k. (k ≡ x.next) × (y.notes.items ≡ x.notes.items ++ note k 0 ∷ [])) };
+    ghost does = { λ _ x _ by y _. MatchOption by (y.notes.items ≡ x.notes.items) (λ k. (k ≡ x.next) × (y.notes.items ≡ x.notes.items ++ note k 0 ∷ [])) };
 
-    fn run(self, state: &mut Notes) -> Option<u64> {
+    fn run(self, state: &mut Notes, _: &mut ()) -> Option<u64> {
         let Start = self;
         state.start()
     }
@@ -71,7 +71,7 @@ pub struct Add {
     pub note: Note,
 }
 
-impl Turn<Notes> for Add {
+impl Turn<Notes, ()> for Add {
     type Answer = Option<()>;
 
     ghost use Rattle.std.specs.Prelude.{◌≡◌, ◌∷◌, ◌++◌, [], MatchOption};
@@ -79,9 +79,9 @@ impl Turn<Notes> for Add {
 
     ghost needs = { λ a notes. HasKey (λ n. n.by) a.note.by notes };
 
-    ghost does = { λ a x done y. MatchOption done (y.notes.items ≡ x.notes.items) (λ _. y.notes.items ≡ x.notes.items ++ a.note ∷ []) };
+    ghost does = { λ a x _ done y _. MatchOption done (y.notes.items ≡ x.notes.items) (λ _. y.notes.items ≡ x.notes.items ++ a.note ∷ []) };
 
-    fn run(self, state: &mut Notes) -> Option<()> {
+    fn run(self, state: &mut Notes, _: &mut ()) -> Option<()> {
         let Add { note } = self;
         state.add(note)
     }
@@ -90,16 +90,16 @@ impl Turn<Notes> for Add {
 /// Answers the first note. There has to be one.
 pub struct First;
 
-impl Turn<Notes> for First {
+impl Turn<Notes, ()> for First {
     type Answer = Note;
 
     ghost use Rattle.std.specs.Prelude.{◌≡◌, ◌<◌, length, slice_get, Some};
 
     ghost needs = { λ _ notes. 0 < length notes };
 
-    ghost does = { λ _ x note y. (slice_get x.notes.items 0 ≡ Some note) × (y.notes.items ≡ x.notes.items) };
+    ghost does = { λ _ x _ note y _. (slice_get x.notes.items 0 ≡ Some note) × (y.notes.items ≡ x.notes.items) };
 
-    fn run(self, state: &mut Notes) -> Note {
+    fn run(self, state: &mut Notes, _: &mut ()) -> Note {
         let First = self;
         state.notes[0]
     }

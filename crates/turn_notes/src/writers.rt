@@ -18,7 +18,7 @@ pub fn first_note<R: Wait>(rt: &R, lock: &TurnLock<Notes>, pass: &mut Pass<Notes
     ensures own { pass.new.own ≡ pass.old.own }
     ensures first { slice_get lock.now.start 0 ≡ Some result }
 {
-    lock.with_turn(rt, pass, First)
+    lock.with_turn(rt, pass, First, &mut ())
 }
 
 /// Adds the first note of a new writer, whose number is the answer. `None` when out of memory.
@@ -27,7 +27,7 @@ pub fn start_writing<R: Wait>(rt: &R, lock: &TurnLock<Notes>, pass: &mut Pass<No
     ensures same { SameButEntries pass.old pass.new }
     ensures wrote { IfSome result (λ by. pass.new.own ≡ pass.old.own ++ note by 0 ∷ []) }
 {
-    lock.with_turn(rt, pass, Start)
+    lock.with_turn(rt, pass, Start, &mut ())
 }
 
 /// Adds a note of a writer that has written under this pass. `None` when out of memory.
@@ -42,7 +42,7 @@ pub fn add_note<R: Wait>(
     ensures same { SameButEntries pass.old pass.new }
     ensures wrote { IfSome result (λ _. pass.new.own ≡ pass.old.own ++ note ∷ []) }
 {
-    lock.with_turn(rt, pass, Add { note })
+    lock.with_turn(rt, pass, Add { note }, &mut ())
 }
 
 // Adds `count` notes, with the values from 0 on, under a number that nobody else has.

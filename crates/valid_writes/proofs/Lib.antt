@@ -5,4 +5,5 @@ pub mod OtherSessions
 pub mod SameHistory
 pub mod Standing
 pub mod Told
+pub mod Touched
 pub mod Writes

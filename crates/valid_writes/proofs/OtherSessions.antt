@@ -11,7 +11,7 @@ use Rattle.history_core.specs.declared.event.Event.TheVariants.{Open, Close, Def
 use Rattle.history_core.specs.Events.{session_in, opened}
 use Rattle.history_core.specs.Transactions.{HasPending}
 use Rattle.history_core.specs.Legal.{IsFormed, Follows}
-use Rattle.history_core.specs.Book.{SessionState, no_session, in_session, pending, session_of}
+use Rattle.history_book.specs.Book.{SessionState, no_session, in_session, pending, session_of}
 use Rattle.history_core.proofs.SessionLemmas.{open_still, pending_still}
 use Rattle.history_core.proofs.Numbers.{opened_bounds, pending_opened}
 use Rattle.history_core.proofs.Prefixes.{along, formed_back}

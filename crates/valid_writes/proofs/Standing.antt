@@ -1,7 +1,7 @@
 -- How the session of a book stands after each event.
 use Rattle.std.proofs.Common.{Option, ◌⊎◌, ◌≡◌, ℕ, ◌+◌, ◌<◌, List, [], ◌∷◌, ◌++◌, Some, None, true, Ok, Err, Result, length, arith, refl, ap, sym, ◌∙◌, subst, inl, inr}
 use Rattle.std.specs.Prelude.{OnOk, OnErr, IfSome, IfNone}
-use Rattle.history_core.specs.Book.{HasSession, session_of}
+use Rattle.history_book.specs.Book.{HasSession, session_of}
 use Rattle.std.specs.List.{Contains}
 use Rattle.std.proofs.lemmas.List.{length_push}
 use Rattle.std.proofs.lemmas.List.Elements.{All-nil, Contains-push_cases, Contains-push}

@@ -1,9 +1,8 @@
 -- What a desk says to a caller of the book.
 use Rattle.std.proofs.Common.{◌≡◌, ◌≢◌, ℕ, ◌≤◌, ◌%◌, Some, List, [], ◌∷◌, ◌++◌, Option, None, Ok, Err, Result, length, take, drop, ◌-◌, arith, refl, ap, sym, ◌∙◌, subst}
 use Rattle.std.specs.Prelude.{IfOk, OnOk, OnErr, IfNone}
-use Rattle.std.specs.List.{Contains, All}
+use Rattle.std.specs.List.{Contains}
 use Rattle.std.proofs.lemmas.List.{append-nil, append_assoc, take-append-drop, take-append-le, drop-append-le, length-drop, take_all, drop_all, length-take-le}
-use Rattle.std.proofs.lemmas.List.Elements.{All-contains}
 use Rattle.cell_base.specs.declared.level.Level.{Level}
 use Rattle.cell_base.specs.declared.cell.Cell.{Cell}
 use Rattle.cell_base.specs.declared.value.Value.{Value}
@@ -13,17 +12,17 @@ use Rattle.history_core.specs.declared.event.Event.TheVariants.{Define, Look, Be
 use Rattle.history_core.specs.declared.fault.DefineAnswer.{DefineAnswer}
 use Rattle.history_core.specs.declared.fault.DefineAnswer.TheVariants.{Defined, Taken}
 use Rattle.history_core.specs.Events.{names, session_in}
-use Rattle.history_core.specs.Legal.{WroteItself, IsOffer}
+use Rattle.history_core.specs.Legal.{IsOffer}
 use Rattle.std.specs.List.{slice_get}
 use Rattle.valid_writes.proofs.Legality.{picked_writes}
 use Rattle.history_core.specs.Chronicle.{Chronicle}
-use Rattle.history_core.specs.Book.{no_session, in_session, pending, HasSession, IsIdle, IsInTransaction, IsUnwritten, session_of, writes_of, GoesOn, Adds, AddsRead, AnswersTables, AnswersDefine}
+use Rattle.history_book.specs.Book.{no_session, in_session, pending, HasSession, IsIdle, IsInTransaction, session_of, writes_of, GoesOn, Adds, AddsRead, AnswersTables, AnswersDefine}
 use Rattle.history_core.proofs.KeptLemmas.{names-push}
 use Rattle.valid_writes.specs.declared.desk.Stage.{Stage}
 use Rattle.valid_writes.specs.declared.desk.Stage.TheVariants.{NoSession, InSession, Pending}
 use Rattle.valid_writes.specs.declared.desk.Desk.{Desk}
 use Rattle.valid_writes.specs.Desk.{note, last_writes, state_of, given_events, own_since, past_of, IsChosen, IsDesk, GoesTo, Stays, ReadsTo, LooksTo, DefinesTo, AnswersTo}
-use Rattle.valid_writes.proofs.Writes.{last_writes-push, wrote_noted}
+use Rattle.valid_writes.proofs.Writes.{last_writes-push}
 
 pub stage_idle : (stage : Stage) (s : ℕ) (events : List Event) → IsIdle (state_of stage s events) → stage ≡ InSession
 stage_idle NoSession s events is = absurd is
@@ -283,15 +282,6 @@ pub end_state :
 end_state old new e open_is goes =
     state_goes old new e old.session InSession goes
     ∙ ap (λ (s : ℕ). in_session s) (sym (session_is_in old.stage old.session old.store.history.events open_is))
-
-pub unwritten_kept :
-    (desk : Desk) (cell : Cell) → IsDesk desk → desk.stage ≡ Pending → IsUnwritten cell (state_of desk.stage desk.session desk.store.history.events) →
-    WroteItself desk.store.history.events desk.session cell → ⊥
-unwritten_kept desk cell was is unwritten wrote =
-    let noted = wrote_noted desk.store.history.initial desk.store.history.events desk.session cell was.store.legal.legal.formed wrote in
-    let none = subst (λ (ws : List (Cell × Value)). All (λ write. write.0 ≢ cell) ws)
-    (writes_pending desk.stage desk.session desk.store.history.events is) unwritten in
-    All-contains (λ write. write.0 ≢ cell) (last_writes desk.store.history.events desk.session) noted.1 none (noted.0, noted.2, noted.3) noted.4
 
 -- what was copied are the tables from the known number on
 pub looks_to :

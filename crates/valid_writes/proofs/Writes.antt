@@ -15,7 +15,7 @@ use Rattle.history_core.specs.Transactions.{IsOf, IsPending, HasPending}
 use Rattle.history_core.specs.Relations.{HasWritten, LastWrites}
 use Rattle.history_core.specs.Legal.{IsFormed, MayCome, Follows, WroteItself}
 use Rattle.history_core.specs.Chronicle.{own_events}
-use Rattle.history_core.specs.Book.{WritesLast}
+use Rattle.history_book.specs.Book.{WritesLast}
 use Rattle.history_core.proofs.Grown.{of_back}
 use Rattle.history_core.proofs.Next.{of_new, of_none, pending_back, last_back, last_new}
 use Rattle.history_core.proofs.Places.{start_session}

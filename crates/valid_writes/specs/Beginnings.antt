@@ -2,7 +2,7 @@
 use Rattle.std.specs.Prelude.{[]}
 use Rattle.cell_base.specs.declared.level.Level.{Level}
 use Rattle.history_core.specs.Chronicle.{Chronicle}
-use Rattle.history_core.specs.Book.{Past, no_session}
+use Rattle.history_book.specs.Book.{Past, no_session}
 
 -- a history at a level without a row at first and without an event
 abbrev pub empty_history : Level → Chronicle

@@ -12,7 +12,7 @@ use Rattle.history_core.specs.Transactions.{HasPending}
 use Rattle.history_core.specs.Relations.{Writes}
 use Rattle.history_core.specs.Legal.{IsOpen, IsOffered}
 use Rattle.history_core.specs.Chronicle.{Chronicle, IsLegalChronicle, followed_by, with_table, own_events}
-use Rattle.history_core.specs.Book.{Past, SessionState, no_session, in_session, pending}
+use Rattle.history_book.specs.Book.{Past, SessionState, no_session, in_session, pending}
 use Rattle.valid_writes.specs.declared.desk.Stage.{Stage}
 use Rattle.valid_writes.specs.declared.desk.Stage.TheVariants.{NoSession, InSession, Pending}
 use Rattle.valid_writes.specs.declared.desk.Desk.{Desk}

@@ -3,7 +3,7 @@ use Rattle.std.specs.Prelude.{◌≡◌, List, [], ◌++◌}
 use Rattle.std.proofs.Common.{sym, ap, ◌∙◌}
 use Rattle.std.proofs.lemmas.List.{append-nil, append_assoc}
 use Rattle.history_core.specs.declared.event.Event.{Event}
-use Rattle.history_core.specs.Book.{Past}
+use Rattle.history_book.specs.Book.{Past}
 
 -- all events that came to the history are the book's own, in that order
 pub record OwnsAllThatComes (old new : Past) : Type 0 where

@@ -3,7 +3,7 @@ use Rattle.std.specs.Prelude.{◌≡◌, List}
 use Rattle.history_core.specs.declared.event.Event.{Event}
 use Rattle.history_core.specs.Transactions.{HasPending}
 use Rattle.history_core.specs.Legal.{IsOpen}
-use Rattle.history_core.specs.Book.{SessionState, no_session, in_session, pending}
+use Rattle.history_book.specs.Book.{SessionState, no_session, in_session, pending}
 use Rattle.valid_writes.specs.Desk.{last_writes}
 
 -- the session that is open is open in the history, and its transaction is pending there with what it wrote last

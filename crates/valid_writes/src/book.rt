@@ -2,7 +2,7 @@
 ghost use Rattle.std.specs.Prelude.{◌≡◌, ◌⊎◌, ℕ, Some, IfSome, IfNone};
 ghost use Rattle.history_core.specs.Transactions.{HasPending};
 ghost use Rattle.history_core.specs.Legal.{IsOpen};
-ghost use Rattle.history_core.specs.Book.{no_session, in_session, pending};
+ghost use Rattle.history_book.specs.Book.{no_session, in_session, pending};
 ghost use Rattle.valid_writes.specs.declared.desk.Stage.TheVariants as stages;
 ghost use Rattle.valid_writes.specs.Store.{IsStore};
 ghost use Rattle.valid_writes.specs.Desk.{given_events, last_writes};
@@ -13,13 +13,13 @@ use crate::calls::{
 };
 use crate::desk::{Desk, Stage};
 use crate::kept::Kept;
-use crate::own::{own_cell, wrote_cell};
-use crate::reading::read_cell;
 use crate::scanning::scan_table;
 use crate::store::Store;
 use crate::tables::{define_table, look_at_tables};
+use crate::touching::touch_cell;
 use cell_base::{Cell, Items, Key, Level, Value};
-use history_core::{Book, BookFault, DefineAnswer, History};
+use history_book::{Book, Words};
+use history_core::{BookFault, DefineAnswer, History};
 use sql_tree::Table;
 use std::marker::Model;
 
@@ -33,7 +33,7 @@ pub struct SeatBook {
 impl Model for SeatBook {
     ghost use Rattle.std.specs.Coded.{codes};
     ghost use Rattle.sql_tree.specs.contracts.typed_expr.TypedNode as typed_node;
-    ghost use Rattle.history_core.specs.Book.{Past};
+    ghost use Rattle.history_book.specs.Book.{Past};
 
     ghost Value = { Past };
 
@@ -99,7 +99,7 @@ impl SeatBook {
     ghost use Rattle.std.specs.Prelude.{◌≡◌};
     ghost use Rattle.history_core.specs.Chronicle.{IsLegalChronicle};
     ghost use Rattle.history_core.specs.Legal.{IsOpen};
-    ghost use Rattle.history_core.specs.Book.{HasSession, session_of};
+    ghost use Rattle.history_book.specs.Book.{HasSession, session_of};
     ghost use Rattle.valid_writes.specs.Seats.{StandsIn};
 
     /// The history that the book has seen, which is the store's, and legal.
@@ -151,16 +151,8 @@ impl Book for SeatBook {
         scan_table(&mut self.desk, table)
     }
 
-    fn wrote(&mut self, cell: &Cell) -> bool {
-        wrote_cell(&self.desk, cell)
-    }
-
-    fn own(&mut self, cell: &Cell) -> Result<Value, BookFault> {
-        own_cell(&mut self.desk, cell)
-    }
-
-    fn read(&mut self, cell: &Cell, word: u32) -> Result<Value, BookFault> {
-        read_cell(&mut self.desk, cell, word)
+    fn touch<W: Words>(&mut self, words: &mut W, cell: &Cell) -> Result<Value, BookFault> {
+        touch_cell(&mut self.desk, words, cell)
     }
 
     fn write(&mut self, cell: Cell, value: Value) -> Result<(), BookFault> {

@@ -3,7 +3,7 @@
 //! `Store` keeps a legal history with its indexes, and beside it the rows of its forced pairs. `offer` is exactly the list of the writes
 //! that the pending transaction of a session may read next, at the level of that transaction. `SeatBook` is a `Book` over a store,
 //! which it holds until `into_store` gives it back: each call adds just its event and keeps the rows, and a refused call leaves both.
-//! A read makes one offer and takes what its word picks of it. A commit, a rollback and a close take no memory.
+//! A touch of a cell reads an own write back, and else draws a word: the read makes one offer and takes what the word picks of it. A commit, a rollback and a close take no memory.
 #![tactic(auto)]
 
 mod append;
@@ -17,6 +17,7 @@ mod reading;
 mod scanning;
 mod store;
 mod tables;
+mod touching;
 
 pub use book::SeatBook;
 pub use store::Store;

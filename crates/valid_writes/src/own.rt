@@ -1,12 +1,12 @@
 // Own reads: the cells that the pending transaction has written, and what it wrote last to each.
-ghost use Rattle.std.specs.Prelude.{◌≡◌, ◌<◌, ◌≤◌, ◌↔◌, Some, Err, IsTrue, IfOk, OnErr, Any, Contains};
+ghost use Rattle.std.specs.Prelude.{◌≡◌, ◌<◌, ◌≤◌, ◌↔◌, Some, Err, IsTrue, IfOk, OnErr, Contains};
 ghost use Rattle.cell_base.specs.declared.value.Value.{Value as CellValue};
 ghost use Rattle.history_core.specs.declared.fault.Limit.{Limit};
 ghost use Rattle.history_core.specs.Events.{begun};
 ghost use Rattle.history_core.specs.Relations.{HasWritten, LastWrites};
 ghost use Rattle.history_core.specs.Legal.{Follows, WroteItself, full_load};
 ghost use Rattle.valid_writes.specs.declared.desk.Stage.TheVariants as stages;
-ghost use Rattle.valid_writes.specs.Desk.{IsDesk, GoesTo, last_writes, Stays};
+ghost use Rattle.valid_writes.specs.Desk.{IsDesk, GoesTo, Stays};
 
 use crate::append::append;
 use crate::desk::Desk;
@@ -66,15 +66,6 @@ fn own_value(alloc: Global, history: &History, session: u32, cell: &Cell) -> Res
         Some(number) => last_write(alloc, history, number, cell),
         None => unreachable!(),
     }
-}
-
-/// Whether the pending transaction has written the cell.
-pub fn wrote_cell(desk: &Desk, cell: &Cell) -> bool
-    requires kept { IsDesk desk.now }
-    requires pending { desk.now.stage ≡ stages.Pending }
-    ensures { IsTrue result ↔ Any (λ write. write.0 ≡ cell.now) (last_writes desk.now.store.history.events desk.now.session) }
-{
-    wrote_itself(desk.store.history.history(), desk.session, cell)
 }
 
 /// Reads a cell that the pending transaction has written.

@@ -2,7 +2,7 @@
 ghost use Rattle.std.specs.Prelude.{◌≡◌, ◌<◌, length, Some, Err, IfOk, OnErr};
 ghost use Rattle.history_core.specs.declared.fault.Limit.{Limit};
 ghost use Rattle.history_core.specs.Legal.{full_load};
-ghost use Rattle.history_core.specs.Book.{IsKeyList};
+ghost use Rattle.history_core.specs.Legal.{IsKeyList};
 ghost use Rattle.valid_writes.specs.declared.desk.Stage.TheVariants as stages;
 ghost use Rattle.valid_writes.specs.Desk.{IsDesk, GoesTo, Stays};
 

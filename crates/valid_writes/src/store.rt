@@ -11,7 +11,7 @@ ghost use Rattle.history_core.specs.Relations.{Meets};
 ghost use Rattle.history_core.specs.Legal.{IsOffer, IsOpen};
 ghost use Rattle.history_core.specs.Forced.{IsForced};
 ghost use Rattle.history_core.specs.Chronicle.{IsLegalChronicle};
-ghost use Rattle.history_core.specs.Book.{no_session, in_session, pending};
+ghost use Rattle.history_book.specs.Book.{no_session, in_session, pending};
 ghost use Rattle.valid_writes.specs.Desk.{given_events, last_writes};
 ghost use Rattle.valid_writes.specs.Store.{IsStore};
 

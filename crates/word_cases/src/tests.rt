@@ -1,6 +1,6 @@
 use cell_base::Items;
 use choice_stream::{ListWords, SeedWords};
-use link_traits::Words;
+use history_book::Words;
 use std::test::Fail;
 
 fn first_words(seed: u64, stream: u64) -> [u32; 4] {

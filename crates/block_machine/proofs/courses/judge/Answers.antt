@@ -7,7 +7,7 @@ use Rattle.statement_course.specs.Statements.{course_of}
 use Rattle.outcome_replies.specs.Replies.{CanBeTold}
 use Rattle.outcome_replies.specs.Ends.{EndsIn}
 use Rattle.outcome_replies.proofs.Told.{outcomes_told}
-use Rattle.course_laws.proofs.ReadsFirst.{reads_first}
+use Rattle.statement_laws.proofs.ReadsFirst.{reads_first}
 use Rattle.cell_compile.specs.Plans.{rest_of}
 use Rattle.block_machine.specs.Stages.{KnowsTables}
 use Rattle.block_machine.proofs.Carried.{if_ok}

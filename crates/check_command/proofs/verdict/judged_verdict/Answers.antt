@@ -2,8 +2,8 @@ use Rattle.check_command.proofs.Many.{few_events}
 use Rattle.check_command.proofs.Judging.{right_of, notes_of, numbered_of}
 use Rattle.check_command.proofs.verdict.judged_verdict.Goals as goal
 
-pub check_order-requires : goal.check_order-requires
-check_order-requires c =
+pub check_order_by-requires : goal.check_order_by-requires
+check_order_by-requires g c =
     let same = (c.in-Ok.ensures.only c.requires.version c.requires.trace c.requires.log c.requires.few).0 in
     record {
       notes = notes_of c.args.bytes.now c.args.cells.now c.in-Ok.trace c.requires same;
@@ -13,9 +13,9 @@ check_order-requires c =
     }
 
 pub verdict_by-requires : goal.verdict_by-requires
-verdict_by-requires c = record {
+verdict_by-requires g c = record {
   few = c.requires.few;
   log = c.in-Ok.ensures.found;
-  right = c.check_order.ensures.ok;
-  breach = c.check_order.ensures.breach;
+  right = c.check_order_by.ensures.ok;
+  breach = c.check_order_by.ensures.breach;
 }

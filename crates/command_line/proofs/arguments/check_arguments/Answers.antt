@@ -1,15 +1,19 @@
 -- The command of `clap` that is built for `check`.
-use Rattle.std.proofs.Common.{◌≡◌, refl, codes}
-use Rattle.clap.specs.Words.{App, with_rule}
-use Rattle.command_line.specs.Arguments.{place, bare, check_arguments}
+use Rattle.std.proofs.Common.{◌≡◌, ◌∙◌, ap, refl, codes}
+use Rattle.clap.specs.Words.{App, app_of, with_rule}
+use Rattle.command_line.specs.Arguments.{place, flag, bare, check_arguments}
 use Rattle.command_line.proofs.Built.{built_on}
 use Rattle.command_line.proofs.arguments.check_arguments.Goals as goal
 
-whole : with_rule (bare (codes "check")) (place (codes "path")) ≡ check_arguments
+abbrev placed : App → App
+placed app = with_rule app (place (codes "path"))
+
+whole : with_rule (placed (bare (codes "check"))) (flag (codes "wide")) ≡ check_arguments
 unfolding check_arguments
 whole = refl
 
 pub returns : goal.returns
 returns c =
-    built_on c.with_one.result _ (bare (codes "check")) check_arguments (λ (app : App). with_rule app (place (codes "path"))) c.bare.ensures whole
-    c.with_one.ensures
+    let one : app_of c.in_ok-placed.placed ≡ placed (bare (codes "check")) = c.in_ok-placed.ensures ∙ ap placed c.bare.ensures in
+    built_on c.with_one-2.result _ (placed (bare (codes "check"))) check_arguments (λ (app : App). with_rule app (flag (codes "wide"))) one whole
+    c.with_one-2.ensures

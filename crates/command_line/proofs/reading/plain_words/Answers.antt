@@ -1,14 +1,14 @@
 -- The commands in their plain form.
 use Rattle.std.proofs.Common.{◌≡◌, ◌∷◌, ℕ, List, [], ap, refl, sym, subst, arith, slice_index}
-use Rattle.std.specs.Prelude.{Option, Some, IsSomeAnd, codes, unwrap_or}
+use Rattle.std.specs.Prelude.{Option, Some, false, IsSomeAnd, codes, unwrap_or}
 use Rattle.clap.specs.Words.{matches_of}
 use Rattle.command_line.specs.Numbers.{level_word, IsLevelWord, IsLongWord, IsUpTo, Lists}
-use Rattle.command_line.specs.Arguments.{pipe_arguments, serve_arguments, check_arguments, sim_arguments, stop_arguments}
-use Rattle.command_line.specs.Commands.{Says, GivesServe, GivesStop, default_address, default_options, PlainPipe, PlainCheck, PlainSim, PlainServe, PlainStop}
+use Rattle.command_line.specs.Arguments.{pipe_arguments, serve_arguments, check_arguments, judge_arguments, sim_arguments, stop_arguments}
+use Rattle.command_line.specs.Commands.{Says, IsFlag, GivesServe, GivesStop, default_address, default_options, PlainPipe, PlainCheck, PlainJudge, PlainSim, PlainServe, PlainStop}
 use Rattle.command_line.specs.declared.serve.Progress.TheVariants.{Told, Quiet}
 use Rattle.clap.proofs.OnLiterals.{clap_on_literals}
 use Rattle.command_line.specs.declared.arguments.Name.TheVariants as names
-use Rattle.command_line.proofs.Plain.{plain_from, plain_level, plain_number, plain_list, pipe_taken, pipe_level, pipe_words, check_taken, check_path, sim_taken, sim_level, sim_seed, sim_sessions, sim_queries, sim_log, stop_taken, stop_address}
+use Rattle.command_line.proofs.Plain.{plain_from, plain_level, plain_number, plain_list, pipe_taken, pipe_level, pipe_words, check_taken, check_path, check_narrow, wide_taken, wide_path, wide_flag, judge_taken, judge_path, sim_taken, sim_level, sim_seed, sim_sessions, sim_queries, sim_log, stop_taken, stop_address}
 use Rattle.command_line.proofs.reading.plain_words.Goals as goal
 
 pipe : PlainPipe
@@ -23,12 +23,39 @@ pipe level list words lists =
       },
     )
 
+-- a text begins with one byte
+apart : (text : List ℕ) → slice_index text 0 ≡ 102 → slice_index text 0 ≡ 116 → ⊥
+apart text e f = omega (arith, e, f)
+
+not_true : Some (codes "false") ≡ Some (codes "true") → ⊥
+not_true e =
+    let words : codes "false" ≡ codes "true" = cc in
+    apart (codes "false") refl (ap (λ (t : List ℕ). slice_index t 0) words)
+
 check : PlainCheck
 check first rest differs =
     let p = plain_from first rest differs in (
-      matches_of check_arguments ((first ∷ rest) ∷ []),
-      record { words = (first ∷ rest) ∷ []; args_are = refl; taken = check_taken (first ∷ rest) p; said_is = refl },
-      check_path (first ∷ rest) p,
+      (
+        matches_of check_arguments ((first ∷ rest) ∷ []),
+        record { words = (first ∷ rest) ∷ []; args_are = refl; taken = check_taken (first ∷ rest) p; said_is = refl },
+        record {
+          path_is = check_path (first ∷ rest) p;
+          wide_is = subst (λ (o : Option (List ℕ)). IsFlag o false) (sym (check_narrow (first ∷ rest) p)) not_true;
+        },
+      ),
+      (
+        matches_of check_arguments (codes "--wide" ∷ (first ∷ rest) ∷ []),
+        record { words = codes "--wide" ∷ (first ∷ rest) ∷ []; args_are = refl; taken = wide_taken (first ∷ rest) p; said_is = refl },
+        record { path_is = wide_path (first ∷ rest) p; wide_is = wide_flag (first ∷ rest) p },
+      ),
+    )
+
+judge : PlainJudge
+judge first rest differs =
+    let p = plain_from first rest differs in (
+      matches_of judge_arguments ((first ∷ rest) ∷ []),
+      record { words = (first ∷ rest) ∷ []; args_are = refl; taken = judge_taken (first ∷ rest) p; said_is = refl },
+      judge_path (first ∷ rest) p,
     )
 
 sim : PlainSim
@@ -47,15 +74,6 @@ sim level a b c seed sessions queries is_seed are_sessions are_queries =
         log_is = sym (sim_log (level_word level) a b c p q r s);
       },
     )
-
--- a text begins with one byte
-apart : (text : List ℕ) → slice_index text 0 ≡ 102 → slice_index text 0 ≡ 116 → ⊥
-apart text e f = omega (arith, e, f)
-
-not_true : Some (codes "false") ≡ Some (codes "true") → ⊥
-not_true e =
-    let words : codes "false" ≡ codes "true" = cc in
-    apart (codes "false") refl (ap (λ (t : List ℕ). slice_index t 0) words)
 
 serve_says : Says names.Serve (codes "serve" ∷ []) (matches_of serve_arguments [])
 unfolding clap_on_literals serve_arguments
@@ -115,6 +133,9 @@ returns-clause-pipe c = pipe
 
 pub returns-clause-check : goal.returns-clause-check
 returns-clause-check c = check
+
+pub returns-clause-judge : goal.returns-clause-judge
+returns-clause-judge c = judge
 
 pub returns-clause-sim : goal.returns-clause-sim
 returns-clause-sim c = sim

@@ -1,4 +1,4 @@
-use Rattle.history_core.specs.Book.{IsInTransaction}
+use Rattle.history_book.specs.Book.{IsInTransaction}
 use Rattle.committed_cases.proofs.play.play.Given as goal
 
 abbrev pub invariant-loop-put : goal.invariant-loop-put

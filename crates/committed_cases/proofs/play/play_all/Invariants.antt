@@ -1,4 +1,4 @@
-use Rattle.history_core.specs.Book.{IsIdle}
+use Rattle.history_book.specs.Book.{IsIdle}
 use Rattle.committed_cases.proofs.play.play_all.Given as goal
 
 abbrev pub invariant-loop-transaction : goal.invariant-loop-transaction

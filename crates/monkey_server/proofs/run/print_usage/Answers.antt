@@ -1,8 +1,4 @@
-use Rattle.std.proofs.Common.{ℕ, List, subst}
-use Rattle.host_calls.specs.Printing.{Printed}
 use Rattle.monkey_server.proofs.run.print_usage.Goals as goal
 
 pub returns-clause-printed : goal.returns-clause-printed
-returns-clause-printed g c =
-    subst (λ (line : List ℕ). Printed line 2 (g.H.Host.hosted c.args.host.now) c.print.result.code (g.H.Host.hosted c.print.new.host))
-    c.as_bytes.ensures.value c.print.ensures.printed
+returns-clause-printed g c = c.say.ensures.printed

@@ -1,5 +1,5 @@
 use Rattle.std.proofs.Common.{◌<◌, length, refl, sym, subst}
-use Rattle.history_core.specs.Book.{SessionState, IsIdle}
+use Rattle.history_book.specs.Book.{SessionState, IsIdle}
 use Rattle.history_core.specs.Chronicle.{Chronicle}
 use Rattle.seat_samples.specs.SessionStates.{MayBegin}
 use Rattle.seat_samples.proofs.seats.idle_seat.Goals as goal

@@ -5,7 +5,7 @@ use Rattle.std.specs.Prelude.{All, ◌+◌, ◌≤◌, vec_capacity}
 use Rattle.std.proofs.lemmas.List.Elements.{All-map}
 use Rattle.history_core.specs.declared.event.Event.{Event}
 use Rattle.history_core.specs.Chronicle.{Chronicle}
-use Rattle.history_core.specs.Book.{no_session}
+use Rattle.history_book.specs.Book.{no_session}
 use Rattle.turn_lock.specs.Passes.{LockValue, PassValue, split_off}
 use Rattle.doors.specs.Passage.{IsUnused}
 use Rattle.doors.specs.Network.{doors_returned}

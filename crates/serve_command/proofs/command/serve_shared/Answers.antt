@@ -45,8 +45,8 @@ returns-in-Ok-clause-goes_on g c =
 pub returns-in-Err-clause-goes_on : goal.returns-in-Err-clause-goes_on
 returns-in-Err-clause-goes_on g c =
     unopened c.args.options.now (chronicle_of c.args.shared.start) (g.N.Network.networked c.args.network.now) (g.N.Network.networked c.run.new.network)
-    (g.H.Host.hosted c.args.host.now) c.in-Err.fault c.without.result.code c.in-Err.ensures.failed c.in-Err.ensures.memory
-    (ap (λ (status : Status). status.code) c.without.ensures ∙ c.status_unopened.ensures)
+    (g.H.Host.hosted c.args.host.now) c.in-Err.fault c.without-status.result.code c.in-Err.ensures.failed c.in-Err.ensures.memory
+    (ap (λ (status : Status). status.code) c.without-status.ensures ∙ c.status_unopened.ensures)
 
 pub finish-store-requires-clause-lock : goal.finish-store-requires-clause-lock
 finish-store-requires-clause-lock g c = c.in-Ok.ensures.lock

@@ -14,4 +14,4 @@ returns-in-Ok-clause-goes_on g c =
     c.serve_shared.ensures.goes_on
 
 pub returns-in-Err-clause-goes_on : goal.returns-in-Err-clause-goes_on
-returns-in-Err-clause-goes_on g c = inl (ap (λ (status : Status). status.code) c.without.ensures, refl, refl)
+returns-in-Err-clause-goes_on g c = inl (ap (λ (status : Status). status.code) c.without-status.ensures, refl, refl)

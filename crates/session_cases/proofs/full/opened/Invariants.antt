@@ -1,5 +1,5 @@
 use Rattle.std.specs.Prelude.{◌≡◌}
-use Rattle.history_core.specs.Book.{no_session}
+use Rattle.history_book.specs.Book.{no_session}
 use Rattle.session_cases.proofs.full.opened.Given as goal
 
 abbrev pub invariant-loop : goal.invariant-loop

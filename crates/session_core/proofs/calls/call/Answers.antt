@@ -1,6 +1,6 @@
 use Rattle.std.proofs.Common.{refl, ap, Err, length}
 use Rattle.history_core.specs.declared.event.Event.TheVariants.{Close, Look, Begin, Commit, Rollback, Show}
-use Rattle.history_core.specs.Book.{session_of}
+use Rattle.history_book.specs.Book.{session_of}
 use Rattle.block_machine.specs.Calls.{call_of}
 use Rattle.block_machine.specs.Calls as calls
 use Rattle.block_machine.specs.declared.call.Answer.TheVariants as answers

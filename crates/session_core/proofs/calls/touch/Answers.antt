@@ -1,18 +1,16 @@
-use Rattle.session_core.proofs.Playing.{touch_later}
+use Rattle.std.proofs.Common.{refl, ap, Err}
+use Rattle.block_machine.specs.Calls as calls
+use Rattle.session_core.proofs.Playing.{declined, found_plays, refused_draws}
 use Rattle.session_core.proofs.calls.touch.Goals as goal
 
-pub returns-then-wrote-clause-plays : goal.returns-then-wrote-clause-plays
-returns-then-wrote-clause-plays g c =
-    let (e, plays) = c.own.ensures.plays in (
-      e,
-      touch_later g.W.Words.gives (g.B.Book.past c.args.book.now) (g.B.Book.past c.wrote.new.self) c.args.words.now c.args.cell.now
-          c.own.result e (g.B.Book.past c.own.new.book) c.args.words.now c.wrote.ensures.goes_on plays,
-    )
+pub returns-in-Ok-clause-plays : goal.returns-in-Ok-clause-plays
+returns-in-Ok-clause-plays g c = found_plays g.W.Words.gives (g.B.Book.past c.args.book.now) c.args.words.now c.args.cell.now c.in-Ok.value
+    (g.B.Book.past c.touch.new.self) c.touch.new.words c.in-Ok.ensures.answers
 
-pub returns-else-wrote-clause-plays : goal.returns-else-wrote-clause-plays
-returns-else-wrote-clause-plays g c =
-    let (e, plays) = c.read.ensures.plays in (
-      e,
-      touch_later g.W.Words.gives (g.B.Book.past c.args.book.now) (g.B.Book.past c.wrote.new.self) c.args.words.now c.args.cell.now
-          c.read.result e (g.B.Book.past c.read.new.book) c.read.new.words c.wrote.ensures.goes_on plays,
-    )
+pub returns-in-Err-clause-plays : goal.returns-in-Err-clause-plays
+returns-in-Err-clause-plays g c =
+    declined g.W.Words.gives (g.B.Book.past c.args.book.now) c.args.words.now (calls.Touch c.args.cell.now) (calls.Touch c.args.cell.now)
+    c.in-Err.why (g.B.Book.past c.touch.new.self) c.touch.new.words refl tt c.in-Err.ensures.err
+    (λ limit is. c.in-Err.ensures.full limit (ap Err is)) (λ limit is. tt)
+    (refused_draws g.W.Words.gives (g.B.Book.past c.args.book.now) c.args.words.now c.args.cell.now c.in-Err.why
+    (g.B.Book.past c.touch.new.self) c.touch.new.words c.in-Err.ensures.answers)

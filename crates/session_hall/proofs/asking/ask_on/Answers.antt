@@ -13,10 +13,10 @@ seat-book-requires c =
     (c.number-number.ensures a.taken a.entries a.calls a.sent attends.follows.stands) is
 
 pub make_call-requires-clause-wanted : goal.make_call-requires-clause-wanted
-make_call-requires-clause-wanted c κs = call_is (wanted c.args.seat.now.session) c.requires.call
+make_call-requires-clause-wanted c = call_is (wanted c.args.seat.now.session) c.requires.call
 
 pub make_call-requires-clause-sits : goal.make_call-requires-clause-sits
-make_call-requires-clause-sits c κs =
+make_call-requires-clause-sits c =
     let (level, client, a, attends) = c.requires.attending in
     let (k, is) = call_is (wanted c.args.seat.now.session) c.requires.call in
     asked_sits c.args.seat.now c.args.store c.number-number.result c.seat-book.result k level client a attends

@@ -1,5 +1,5 @@
 use Rattle.std.proofs.Common.{refl, subst, sym}
-use Rattle.history_core.specs.Book.{SessionState}
+use Rattle.history_book.specs.Book.{SessionState}
 use Rattle.shared_book.specs.Places.{IsAt}
 use Rattle.shared_book.proofs.Seating.{at_place, seat_open, seat_state, turned_is, turned_adds}
 use Rattle.shared_book.proofs.seat.run_on.Goals as goal
@@ -29,7 +29,7 @@ returns-clause-turned g c =
     let seat = c.seat-book.ensures in
     let state = seat_state c.args.place _ c.args.store.events _ c.session.ensures needs.0 seat.none seat.idle seat.pending in
     let made = c.make-place.ensures in
-    turned_is c.args.place _ _ c.args.store _ _ _ _ seat.seen state c.into_store.ensures.is made.place c.into_store.ensures.stands
+    turned_is c.args.place _ (λ old a new. g.C.SeatCall.does c.args.call old c.args.beside.now a new c.make-place.new.beside) c.args.store _ _ _ _ seat.seen state c.into_store.ensures.is made.place c.into_store.ensures.stands
     c.history.ensures.legal c.history-2.ensures.legal made.adds made.does
 
 pub returns-clause-adds : goal.returns-clause-adds

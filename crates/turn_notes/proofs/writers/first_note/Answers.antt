@@ -5,7 +5,7 @@ pub with_turn-requires-clause-ready : goal.with_turn-requires-clause-ready
 with_turn-requires-clause-ready g c = λ xs possible. begun_some c.args.lock.now.start xs c.requires.some (rw (← c.requires.lock) possible.0)
 
 pub with_turn-requires-clause-keys : goal.with_turn-requires-clause-keys
-with_turn-requires-clause-keys g c = λ x answer y e possible does grown. adds_none x.notes.items _ _ e does.1 grown
+with_turn-requires-clause-keys g c = λ b x answer y e possible does grown. adds_none x.notes.items _ _ e does.1 grown
 
 pub returns-clause-own : goal.returns-clause-own
 returns-clause-own g c = let e = c.with_turn.ensures in none_added _ _ e.0.notes.items e.1.notes.items e.3.added e.2.1 e.3.grown e.3.own

@@ -1,5 +1,5 @@
 use Rattle.std.proofs.Common.{sym, subst}
-use Rattle.history_core.specs.Book.{Past, HasSession}
+use Rattle.history_book.specs.Book.{Past, HasSession}
 use Rattle.valid_writes.proofs.Alone.{owns_answers, owns_if}
 use Rattle.valid_writes.proofs.Told.{if_ok, stage_open, defines_answers, defines_state, err_goes}
 use Rattle.valid_writes.proofs.book.SeatBookBook.define.Goals as goal

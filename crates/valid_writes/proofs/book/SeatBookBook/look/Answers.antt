@@ -1,5 +1,5 @@
 use Rattle.std.proofs.Common.{sym, subst}
-use Rattle.history_core.specs.Book.{Past, HasSession}
+use Rattle.history_book.specs.Book.{Past, HasSession}
 use Rattle.valid_writes.proofs.Alone.{owns_goes, owns_if}
 use Rattle.valid_writes.proofs.Told.{if_ok, stage_open, looks_answers, looks_state, err_goes}
 use Rattle.valid_writes.proofs.book.SeatBookBook.look.Goals as goal

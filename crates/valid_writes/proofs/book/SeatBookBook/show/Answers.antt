@@ -1,5 +1,5 @@
 use Rattle.std.proofs.Common.{refl, sym, subst}
-use Rattle.history_core.specs.Book.{Past, HasSession}
+use Rattle.history_book.specs.Book.{Past, HasSession}
 use Rattle.history_core.specs.declared.event.Event.TheVariants.{Show}
 use Rattle.valid_writes.proofs.Alone.{owns_goes, owns_if}
 use Rattle.valid_writes.proofs.Told.{if_ok, stage_open, adds_in_session, call_state, err_goes}

@@ -1,5 +1,5 @@
 use Rattle.std.proofs.Common.{sym, subst}
-use Rattle.history_core.specs.Book.{Past, IsInTransaction}
+use Rattle.history_book.specs.Book.{Past, IsInTransaction}
 use Rattle.history_core.specs.declared.event.Event.TheVariants.{Write}
 use Rattle.valid_writes.specs.declared.desk.Stage.TheVariants.{Pending}
 use Rattle.valid_writes.proofs.Alone.{owns_goes, owns_on}

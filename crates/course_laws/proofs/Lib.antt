@@ -1,9 +1,0 @@
-pub mod ReadingFirst
-pub mod Inserting
-pub mod Changing
-pub mod ReadsFirst
-pub mod MentionsOnce
-pub mod ReadingOnce
-pub mod PartsOnce
-pub mod KeysOnce
-pub mod TouchesOnce

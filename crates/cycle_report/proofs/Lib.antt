@@ -1,0 +1,9 @@
+pub mod PastSteps
+pub mod OwnerLemmas
+pub mod Neighbours
+pub mod Orders
+pub mod DemandLemmas
+pub mod PairSteps
+pub mod ReasonLemmas
+pub mod RingLemmas
+pub mod StepLemmas

@@ -1,4 +1,0 @@
-pub mod Scripts
-pub mod StatementsTell
-pub mod MessagesTell
-pub mod SessionsTell

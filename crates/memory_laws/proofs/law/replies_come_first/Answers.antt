@@ -1,5 +1,0 @@
-use Rattle.memory_laws.proofs.SessionsTell.{before_lacks, before_refusals}
-use Rattle.memory_laws.proofs.law.replies_come_first.Goals as goal
-
-pub returns : goal.returns
-returns c = record { lacks = before_lacks; refusals = before_refusals }

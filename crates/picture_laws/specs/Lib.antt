@@ -1,4 +1,0 @@
-pub mod Demands
-pub mod Shown
-pub mod Asked
-pub mod Laws

@@ -1,5 +1,0 @@
-use Rattle.program_completeness.proofs.CutLogs.{no_logs, are_cut, have_faults, left_cut, cut_logs_check}
-use Rattle.program_completeness.proofs.law.cut_logs_have_faults.Goals as goal
-
-pub returns : goal.returns
-returns c = record { no_log = no_logs; fault = are_cut; verdict = have_faults; left = left_cut; program = cut_logs_check }

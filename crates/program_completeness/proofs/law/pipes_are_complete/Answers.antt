@@ -1,5 +1,0 @@
-use Rattle.program_completeness.proofs.Piping.{piped_complete, pipes_complete}
-use Rattle.program_completeness.proofs.law.pipes_are_complete.Goals as goal
-
-pub returns : goal.returns
-returns c = record { piped = piped_complete; program = pipes_complete }

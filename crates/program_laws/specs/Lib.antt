@@ -1,0 +1,10 @@
+pub mod OneHistory
+pub mod Visits
+pub mod Programs
+pub mod Checking
+pub mod CutLogs
+pub mod Simulating
+pub mod Statuses
+pub mod ServedSessions
+pub mod Free
+pub mod Ending

@@ -1,4 +1,0 @@
-pub mod Pictured
-pub mod Scanning
-pub mod Targets
-pub mod Answering

@@ -1,5 +1,0 @@
-pub mod Runs
-pub mod Pictures
-pub mod Scans
-pub mod Writes
-pub mod Laws

@@ -1,4 +1,0 @@
-pub mod ServedOn
-pub mod OneEach
-pub mod WholeStart
-pub mod Rows

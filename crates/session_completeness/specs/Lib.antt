@@ -1,4 +1,0 @@
-pub mod Streams
-pub mod Sessions
-pub mod Statements
-pub mod Conversations

@@ -1,0 +1,13 @@
+use Rattle.statement_laws.proofs.RowsWhole.{all_set}
+use Rattle.session_laws.proofs.Histories.{keeps_rows}
+use Rattle.session_laws.proofs.Made.{made_alone}
+use Rattle.session_laws.proofs.rows.made_rows_are_whole.Goals as goal
+
+pub returns : goal.returns
+returns g c history legal rows made =
+    all_set history.tables history.initial history.events (record {
+      state = legal.initial;
+      legal = legal.legal;
+      rows = rows;
+      keeps = keeps_rows history.tables history.events (λ session. made_alone g.W.Words.gives history session (made session));
+    })

@@ -1,0 +1,15 @@
+pub mod Openings
+pub mod Causes
+pub mod Exactly
+pub mod Telling
+pub mod Acts
+pub mod Transcripts
+pub mod PictureLaws
+pub mod Streams
+pub mod Sessions
+pub mod Statements
+pub mod Replies
+pub mod Conversations
+pub mod Blocks
+pub mod Alone
+pub mod Made

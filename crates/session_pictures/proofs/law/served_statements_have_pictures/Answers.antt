@@ -1,5 +1,0 @@
-use Rattle.session_pictures.proofs.OnePicture.{served_over_pictures}
-use Rattle.session_pictures.proofs.law.served_statements_have_pictures.Goals as goal
-
-pub returns : goal.returns
-returns g c = served_over_pictures g.W.Words.gives

@@ -1,5 +1,0 @@
-pub mod Fronts
-pub mod Histories
-pub mod Standings
-pub mod Records
-pub mod Made

@@ -1,9 +1,0 @@
-pub mod Scripts
-pub mod StatementsFew
-pub mod SessionsFew
-pub mod Heard
-pub mod Streams
-pub mod Loads
-pub mod Sums
-pub mod Accounts
-pub mod Playing

@@ -1,0 +1,12 @@
+pub mod Courses
+pub mod Demands
+pub mod Shown
+pub mod Asked
+pub mod PictureLaws
+pub mod Runs
+pub mod Pictures
+pub mod Scans
+pub mod Writes
+pub mod RunLaws
+pub mod RowCourses
+pub mod WholeRows

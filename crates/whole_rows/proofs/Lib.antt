@@ -1,2 +1,0 @@
-pub mod Prefixed
-pub mod WholeRows
