@@ -32,7 +32,7 @@ pub fn meeting_book<'a, R: Wait>(
     mine: &'a AtomicBool,
     other: &'a AtomicBool,
 ) -> MeetingBook<'a, R>
-    ensures { result.book ≡ book }
+    ensures { result.book ≡ book.entry }
 {
     MeetingBook {
         book,
