@@ -29,6 +29,8 @@ mod meeting;
 #[cfg(test)]
 mod meeting_book;
 #[cfg(test)]
+mod overlap;
+#[cfg(test)]
 mod servers;
 #[cfg(test)]
 mod sessions;

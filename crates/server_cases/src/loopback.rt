@@ -34,14 +34,14 @@ const LINE: &[u8] = b"served 1 sessions 2 transactions 14 events\n";
 const TRIES: u32 = 1_000_000;
 
 // An address of the loopback at which nobody listens.
-fn free_address<R: Net<Listener = TcpListener, Stream = TcpStream>>(
+pub(crate) fn free_address<R: Net<Listener = TcpListener, Stream = TcpStream>>(
     rt: &R,
 ) -> io::Result<SocketAddr> {
     TcpListener::bind(rt, "127.0.0.1:0")?.local_addr()
 }
 
 // Connects, once the server listens.
-fn connect<R: Net<Listener = TcpListener, Stream = TcpStream>>(
+pub(crate) fn connect<R: Net<Listener = TcpListener, Stream = TcpStream>>(
     rt: &R,
     address: SocketAddr,
 ) -> Option<TcpStream> {
@@ -69,7 +69,7 @@ fn ask<R: Net<Listener = TcpListener, Stream = TcpStream>>(
 }
 
 // Whether a client of these bytes is sent the others.
-fn is_sent<R: Net<Listener = TcpListener, Stream = TcpStream>>(
+pub(crate) fn is_sent<R: Net<Listener = TcpListener, Stream = TcpStream>>(
     rt: &R,
     alloc: Global,
     address: SocketAddr,
@@ -97,27 +97,32 @@ fn asks<R: Net<Listener = TcpListener, Stream = TcpStream>>(
     is_sent(rt, alloc, address, &client, &expected)
 }
 
-// Whether a server of this command ends well, and prints its line.
-fn ends_well<R>(rt: &R, alloc: Global, line: &[u8]) -> Result<bool, Memory>
+// Whether a server of this command ends well, and prints this line.
+pub(crate) fn ends_well<R>(
+    rt: &R,
+    alloc: Global,
+    command: &[u8],
+    line: &[u8],
+) -> Result<bool, Memory>
 where
     R: Net<Listener = TcpListener, Stream = TcpStream> + Threads + Wait + Eprint + Sync,
 {
     let mut network = TcpNetwork::new(rt, alloc);
-    let done = run_at(rt, alloc, &mut network, line, &with_file("", ""))?;
-    Ok(done.code == 0 && done.printed.as_slice() == LINE)
+    let done = run_at(rt, alloc, &mut network, command, &with_file("", ""))?;
+    Ok(done.code == 0 && done.printed.as_slice() == line)
 }
 
 #[test]
 fn serves_a_client_over_the_loopback(rt: HostRuntime) -> Result<(), Fail> {
     let alloc = rt.alloc();
     let address = free_address(&rt)?;
-    let line = format!(in alloc;
+    let command = format!(in alloc;
         "serve/--quiet/--level/cc/--seed/7/--listen/{address}/--workers/1/--accept/1"
     )?;
-    let line = line.as_bytes();
+    let command = command.as_bytes();
     let (ends, asks) = join(
         &rt,
-        || ends_well(&rt, alloc, line),
+        || ends_well(&rt, alloc, command, LINE),
         || asks(&rt, alloc, address),
     );
     assert!(rt; ends?);
