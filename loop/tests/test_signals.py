@@ -79,7 +79,7 @@ class Signals(unittest.TestCase):
         self.assertEqual(self.end()[:2], (3, "served\n"))
         self.assertEqual(self.read("asked"), "127.0.0.1:5433")
 
-    def test_an_address_behind_an_equals_sign(self):
+    def test_an_address_after_an_equals_sign(self):
         self.serve("--listen=[::1]:7")
         self.script.send_signal(signal.SIGTERM)
         self.assertEqual(self.end()[0], 3)
