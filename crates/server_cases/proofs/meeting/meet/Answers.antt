@@ -1,13 +1,27 @@
 use Rattle.std.proofs.Common.{◌<◌, ℕ, List, [], ◌∷◌, slice_index_or}
 use Rattle.std.proofs.lemmas.List.Elements.{All-nil, All-cons}
-use denote.Param.Send.{sendable}
+use denote.RattleType.{RattleType}
+use denote.Ref.{NamedLft}
+use denote.Param.Send.{IsSend, IsSync, sendable}
 use denote.Param.SendFields.{declared_send}
 use Rattle.doors.specs.MemDoors.{mem_passage}
-use Rattle.server_cases.specs.Meetings.{meeting_past}
-use Rattle.server_cases.proofs.Sending.{meeting_send}
+use Rattle.std.proofs.Crossing.{crosses}
+use Rattle.history_book.specs.Book.{Past}
+use Rattle.shared_book.specs.Books.{past_of}
+use Rattle.shared_book.proofs.Sending.{book_send}
+use Rattle.server_cases.specs.contracts.meeting_book.MeetingBook as MeetingRow
+use Rattle.server_cases.specs.declared.meeting_book.MeetingBook.{MeetingBook}
 use Rattle.door_workers.specs.Workers.{IsReady, post_of}
 use Rattle.std.specs.Prelude.{◌+◌, ◌≤◌, vec_len, vec_capacity}
 use Rattle.server_cases.proofs.meeting.meet.Goals as goal
+
+-- a book whose session meets another one may go to another thread, where the waiting may be shared
+meeting_send : (lifetime : NamedLft) (waits : RattleType) → IsSync waits → IsSend (MeetingRow.the_row lifetime waits)
+meeting_send lifetime waits shared = search (sendable, declared_send, crosses, book_send) depth 24
+
+-- what it has seen
+abbrev meeting_past : {R : Type 0} → MeetingBook R → Past
+meeting_past meeting = past_of meeting.book
 
 pub serve_doors-requires-send-B : goal.serve_doors-requires-send-B
 serve_doors-requires-send-B g c κs within = let shared = c.type_bounds.sync-R in search (sendable, declared_send, meeting_send) depth 24
