@@ -56,9 +56,10 @@ fn meet(mine: &AtomicBool, other: &AtomicBool) -> bool {
 }
 
 impl<'a, R: Wait> Book for MeetingBook<'a, R> {
-    ghost use Rattle.shared_book.specs.Books.{past_of, Stays, stays_same, stays_both};
+    ghost use Rattle.shared_book.specs.Books.{Stays, stays_same, stays_both};
+    ghost use Rattle.server_cases.specs.Meetings.{meeting_past};
 
-    ghost past = { λ b. past_of b.book };
+    ghost past = { meeting_past };
 
     ghost stays = { λ old new. Stays old.book new.book };
 
