@@ -1,5 +1,5 @@
 -- The committed writers of each cell, listed as the transactions come one after another, and what a read demands of them alone.
-use Rattle.std.proofs.Common.{◌≡◌, ℕ, ◌+◌, ◌-◌, ◌<◌, ◌≤◌, List, [], length, Some, arith, ap, sym, ◌∙◌, subst, inl, inr, ◌⊎◌}
+use Rattle.std.proofs.Common.{◌≡◌, ℕ, ◌+◌, ◌-◌, List, [], length, Some, arith, ap, sym, ◌∙◌, subst, inl, inr}
 use Rattle.std.specs.List.{Contains, slice_get}
 use Rattle.std.specs.List.Sorted.{IsStrictlyIncreasing}
 use Rattle.std.proofs.lemmas.Bool.{cases_eq, cases_lt}
@@ -20,7 +20,7 @@ use Rattle.history_core.specs.Kept.{StandsForTxns}
 use Rattle.history_core.proofs.Offers.{writer_bounded}
 use Rattle.saturation.proofs.Sights.{writes_later}
 use Rattle.order_test.specs.Settled.{IsOrderly}
-use Rattle.order_test.specs.Sights.{IsNumber, IsReadAt, IsRivalCell, origin_of}
+use Rattle.order_test.specs.Sights.{IsNumber, IsReadAt, origin_of}
 use Rattle.cycle_report.specs.Listed.{ListWriters}
 use Rattle.cycle_report.specs.Reasons.{IsDemandedAt}
 use Rattle.cycle_report.specs.Views.{IsNews}

@@ -36,7 +36,7 @@ use Rattle.cycle_report.specs.Reasons.{IsReadFromAt, IsDemandedAt, HasReason, Is
 use Rattle.cycle_report.specs.declared.pasts.Past.{Past}
 use Rattle.cycle_report.specs.declared.pasts.Pasts.{Pasts}
 use Rattle.cycle_report.specs.Pasts.{ArePasts}
-use Rattle.cycle_report.specs.Views.{DemandsAt, IsNews, IsListedAt, IsListed}
+use Rattle.cycle_report.specs.Views.{DemandsAt, IsListedAt, IsListed}
 use Rattle.cycle_report.specs.Judged.{MeetsAt, IsOrderAt, IsCycleAt, edges_of}
 use Rattle.cycle_report.proofs.Neighbours.{next_less, next_ordered, sessions_rise}
 

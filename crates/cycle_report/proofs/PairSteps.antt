@@ -20,7 +20,7 @@ use Rattle.order_test.specs.Settled.{IsOrderly}
 use Rattle.order_test.specs.Sights.{IsReadAt, IsReading, origin_of}
 use Rattle.order_test.proofs.SearchLemmas.{one_reader}
 use Rattle.cycle_report.specs.Reasons.{IsNext, IsReadFromAt}
-use Rattle.cycle_report.specs.Views.{DemandsAt, IsNews, IsListedAt, IsListedBelow, IsListed, IsNextAt, IsNextBelow}
+use Rattle.cycle_report.specs.Views.{IsNews, IsListedAt, IsListedBelow, IsListed, IsNextAt, IsNextBelow}
 use Rattle.cycle_report.proofs.Neighbours.{place_within}
 use Rattle.cycle_report.proofs.Orders.{demand_read, read_place, listed_range}
 use Rattle.cycle_report.proofs.DemandLemmas.{no_read_at, no_demand_at, source_at, demand_source}

@@ -1,5 +1,5 @@
 -- Two numbers of each transaction that tell much of its causal past, and what of a list of writers they leave to look at.
-use Rattle.std.proofs.Common.{◌≡◌, ℕ, ◌+◌, ◌-◌, ◌<◌, ◌≤◌, List, [], ◌∷◌, ◌++◌, length, get_or, Some, None, refl, arith, ap, sym, ◌∙◌, subst, inl, inr, ◌⊎◌}
+use Rattle.std.proofs.Common.{◌≡◌, ℕ, ◌+◌, ◌-◌, ◌<◌, ◌≤◌, List, [], ◌∷◌, ◌++◌, length, get_or, Some, None, refl, arith, ap, sym, ◌∙◌, subst, inl, inr}
 use Rattle.std.specs.List.{Contains, slice_get}
 use Rattle.std.specs.List.Sorted.{IsStrictlyIncreasing}
 use Rattle.std.proofs.lemmas.Bool.{cases_eq, cases_lt}
@@ -12,7 +12,6 @@ use Rattle.cell_base.specs.declared.level.Level.{Level}
 use Rattle.indexed_history.proofs.Ascending.{increasing_less}
 use Rattle.history_core.specs.declared.event.Event.{Event}
 use Rattle.history_core.specs.declared.txn.Txn.{Txn}
-use Rattle.history_core.specs.Events.{begun}
 use Rattle.history_core.specs.Kept.{StandsForTxns}
 use Rattle.history_core.specs.Records.{IsRecordOf}
 use Rattle.history_core.specs.Relations.{Precedes, PrecedesCausally}

@@ -1,7 +1,6 @@
 -- Two numbers of each transaction that tell much of its causal past.
-use Rattle.std.specs.Prelude.{◌≡◌, ◌<◌, ◌≤◌, ◌+◌, ℕ, Some, List, length, slice_get}
+use Rattle.std.specs.Prelude.{◌≡◌, ◌<◌, ◌≤◌, ℕ, Some, List, length, slice_get}
 use Rattle.history_core.specs.declared.event.Event.{Event}
-use Rattle.history_core.specs.Events.{begun}
 use Rattle.history_core.specs.Relations.{PrecedesCausally}
 use Rattle.order_test.specs.Sights.{IsNumber}
 use Rattle.cycle_report.specs.declared.spans.Span.{Span}

@@ -1,5 +1,5 @@
 -- What stands for a history that is judged, and the pairs that are listed of it.
-use Rattle.std.specs.Prelude.{◌≡◌, ◌<◌, ◌+◌, ◌⊎◌, ℕ, List, length}
+use Rattle.std.specs.Prelude.{◌≡◌, ◌<◌, ◌⊎◌, ℕ, List, length}
 use Rattle.cell_base.specs.declared.level.Level.{Level}
 use Rattle.cell_base.specs.declared.cell.Cell.{Cell}
 use Rattle.history_core.specs.declared.event.Event.{Event}

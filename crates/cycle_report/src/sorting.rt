@@ -78,13 +78,7 @@ fn blocked_turn(
 }
 
 /// Whether the number may come next. Its turn goes down to what it waits for.
-fn is_free(
-    edges: &[Edge],
-    earlier: &[usize],
-    marks: &[bool],
-    turns: &mut [usize],
-    n: usize,
-) -> bool
+fn is_free(edges: &[Edge], earlier: &[usize], marks: &[bool], turns: &mut [usize], n: usize) -> bool
     requires in_range { IsInRange (length marks.now) edges.now }
     requires small { length marks.now < 4294967296 }
     requires earlier { AreEarlier edges.now (length edges.now) earlier.now }

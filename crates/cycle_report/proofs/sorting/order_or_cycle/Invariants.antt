@@ -1,6 +1,6 @@
 use Rattle.std.proofs.Common.{◌≤◌, sum_by, cond}
 use Rattle.order_witness.proofs.Placing.{IsPlacing}
-use Rattle.cycle_report.specs.Turns.{AreEarlier, ArePassed, AreMarkedBelow}
+use Rattle.cycle_report.specs.Turns.{ArePassed, AreMarkedBelow}
 use Rattle.cycle_report.proofs.sorting.order_or_cycle.Given as goal
 
 abbrev pub invariant-loop-n : goal.invariant-loop-n
