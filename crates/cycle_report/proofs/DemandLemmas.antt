@@ -18,14 +18,14 @@ use Rattle.cycle_report.specs.Firsts.{IsFirstDemand}
 use Rattle.cycle_report.proofs.Orders.{demand_read}
 
 -- the reader of a demand is that of the event
-demand_visible :
+pub demand_visible :
     (level : Level) (events : List Event) (place : ℕ) (event : Event) (reader : ℕ) (cell : Cell) (a b : ℕ) → IsOrderly events →
     IsReadAt events place event reader → IsDemandedAt level events place cell a b → IsVisibleAt level events reader place a
 demand_visible level events place event reader cell a b orderly read d =
     let here = reads_here events orderly place event reader read.of d.reader b cell d.reads in
     subst (λ (r : ℕ). IsVisibleAt level events r place a) here.reader_is d.visible
 
-demand_rival :
+pub demand_rival :
     (level : Level) (events : List Event) (place : ℕ) (event : Event) (reader : ℕ) (txn : Txn) (cell : Cell) (a : ℕ) → IsOrderly events →
     IsReadAt events place event reader → 0 < a → IsRecordOf events a txn → IsDemandedAt level events place cell a (origin_of event) →
     (IsRivalCell event txn.buffer.writes cell → ⊥) → ⊥

@@ -3,7 +3,10 @@ pub mod OwnerLemmas
 pub mod Neighbours
 pub mod Orders
 pub mod DemandLemmas
+pub mod ListLemmas
 pub mod PairSteps
+pub mod SpanLemmas
 pub mod ReasonLemmas
 pub mod RingLemmas
 pub mod StepLemmas
+pub mod TurnLemmas

@@ -1,8 +1,8 @@
 -- Orders that meet a history at a level, and cycles that exclude them.
-use Rattle.std.proofs.Common.{◌≡◌, ℕ, ◌+◌, ◌<◌, ◌≤◌, zero, suc, List, [], ◌∷◌, Some, length, get_or, map, take, arith, refl, ap, sym, ◌∙◌, subst, inl, inr}
+use Rattle.std.proofs.Common.{◌≡◌, ◌⊎◌, ℕ, ◌+◌, ◌<◌, ◌≤◌, zero, suc, List, [], ◌∷◌, Some, length, get_or, map, take, arith, refl, ap, sym, ◌∙◌, subst, inl, inr}
 use Rattle.std.specs.List.{slice_get}
 use Rattle.std.proofs.lemmas.List.Elements.{All-contains, Contains-get_or}
-use Rattle.std.proofs.lemmas.Option.{slice_get_within, slice_get-get_or}
+use Rattle.std.proofs.lemmas.Option.{slice_get_within, slice_get-get_or, slice_get_cases}
 use Rattle.std.proofs.lemmas.Bool.{cases_order, cases_lt}
 use Rattle.graph_base.specs.declared.Edge.{Edge}
 use Rattle.graph_base.specs.Order.{IsOrder, HoldsEachOnce, place_of}
@@ -10,6 +10,7 @@ use Rattle.graph_base.specs.LeastOrder.{PlacesLeast, RisesAlong}
 use Rattle.graph_base.specs.Closure.{HasEdge}
 use Rattle.graph_base.proofs.Ranks.{no_cycle_extended}
 use Rattle.graph_base.proofs.Places.{place_of-first}
+use Rattle.graph_base.proofs.Chains.{chained_rises}
 use Rattle.graph_base.proofs.LeastOrders.{follows_in_order, follow_same, places_pairs}
 use Rattle.order_witness.specs.Verdict.{HasLeastOrder}
 use Rattle.cell_base.specs.declared.level.Level.{Level}
@@ -18,12 +19,13 @@ use Rattle.history_core.specs.declared.event.Event.{Event}
 use Rattle.history_core.specs.declared.event.Event.TheVariants.{Open, Close, Define, Look, Begin, Scan, Read, Own, Write, Commit, Rollback, Show}
 use Rattle.history_core.specs.Events.{begun, session_in}
 use Rattle.history_core.specs.Transactions.{IsOf, RunsAt}
-use Rattle.history_core.specs.Relations.{Gives, Reads, IsSessionOrdered, IsVisibleAt, Meets}
+use Rattle.history_core.specs.Relations.{Gives, Reads, Precedes, PrecedesCausally, IsSessionOrdered, IsVisibleAt, Meets}
 use Rattle.history_core.specs.Forced.{IsPairList}
 use Rattle.history_core.proofs.Places.{begun-take_all, runs_of}
 use Rattle.history_core.proofs.Prefixes.{found_once, start_bounded, start_positive}
 use Rattle.history_core.proofs.Offers.{writer_bounded}
 use Rattle.saturation.proofs.Decides.{initial_ordered, committed_bounded}
+use Rattle.saturation.proofs.Sights.{writes_later}
 use Rattle.order_test.specs.Settled.{IsOrderly, HasSettledSource}
 use Rattle.order_test.specs.Sights.{IsReading, origin_of}
 use Rattle.order_test.proofs.SearchLemmas.{gives_origin}
@@ -31,7 +33,10 @@ use Rattle.cycle_report.specs.declared.judgement.Reason.{Reason}
 use Rattle.cycle_report.specs.declared.judgement.Reason.TheVariants as reasons
 use Rattle.cycle_report.specs.declared.judgement.Step.{Step}
 use Rattle.cycle_report.specs.Reasons.{IsReadFromAt, IsDemandedAt, HasReason, IsAsked}
-use Rattle.cycle_report.specs.Views.{IsListedAt, IsListed}
+use Rattle.cycle_report.specs.declared.pasts.Past.{Past}
+use Rattle.cycle_report.specs.declared.pasts.Pasts.{Pasts}
+use Rattle.cycle_report.specs.Pasts.{ArePasts}
+use Rattle.cycle_report.specs.Views.{DemandsAt, IsListedAt, IsListed}
 use Rattle.cycle_report.specs.Judged.{MeetsAt, IsOrderAt, IsCycleAt, edges_of}
 use Rattle.cycle_report.proofs.Neighbours.{next_less, next_ordered, sessions_rise}
 
@@ -98,9 +103,13 @@ pub listed_read : (level : Level) (events : List Event) (place a b : ℕ) → Is
 listed_read level events place a b read = inr record { place = place; below = read_place events place a b read; listed = inl read }
 
 pub listed_demand :
-    (level : Level) (events : List Event) (place : ℕ) (cell : Cell) (a b : ℕ) → 0 < a → IsDemandedAt level events place cell a b → IsListed level events a b
-listed_demand level events place cell a b positive d =
-    inr record { place = place; below = read_place events place b d.reader (demand_read level events place cell a b d); listed = inr (positive, (cell, d)) }
+    (level : Level) (events : List Event) (place : ℕ) (cell : Cell) (a b : ℕ) → 0 < a → (PrecedesCausally events a b → ⊥) →
+    IsDemandedAt level events place cell a b → IsListed level events a b
+listed_demand level events place cell a b positive apart d = inr record {
+  place = place;
+  below = read_place events place b d.reader (demand_read level events place cell a b d);
+  listed = inr record { positive = positive; apart = apart; demands = (cell, d) };
+}
 
 pub listed_range :
     (level : Level) (events : List Event) → IsOrderly events → (a b : ℕ) → IsListed level events a b → (a < begun events + 1) × (b < begun events + 1)
@@ -114,9 +123,12 @@ listed_range level events orderly a b (inr below) = at below.place below.listed
         let first = source_small events orderly place a b read in
         let second = reader_small events place a b read in
         let h = second.1 in (omega arith, omega arith)
-    at place (inr (positive, (cell, d))) =
-        let first = writer_bounded events a cell d.writes in
-        let second = source_small events orderly place b d.reader (demand_read level events place cell a b d) in (omega arith, omega arith)
+    at place (inr news) = by news.demands
+      where
+        by : DemandsAt level events place a b → (a < begun events + 1) × (b < begun events + 1)
+        by (cell, d) =
+            let first = writer_bounded events a cell d.writes in
+            let second = source_small events orderly place b d.reader (demand_read level events place cell a b d) in (omega arith, omega arith)
 
 -- what is listed is asked
 pub asked_from_listed : (level : Level) (events : List Event) (a b : ℕ) → IsListed level events a b → IsAsked level events a b
@@ -125,15 +137,39 @@ asked_from_listed level events a b (inr below) = at below.place below.listed
   where
     at : (place : ℕ) → IsListedAt level events place a b → IsAsked level events a b
     at place (inl read) = (reasons.Read (place + 1), (place, refl, read))
-    at place (inr (positive, (cell, d))) = (reasons.Axiom (place + 1) cell, (place, refl, d))
+    at place (inr news) = by news.demands
+      where
+        by : DemandsAt level events place a b → IsAsked level events a b
+        by (cell, d) = (reasons.Axiom (place + 1) cell, (place, refl, d))
+
+-- ---- causal pasts
+
+-- the past of a transaction tells whether a writer is in it
+past_tells :
+    (level : Level) (events : List Event) (pasts : Pasts) → IsOrderly events → ArePasts events pasts → (place : ℕ) (cell : Cell) (a b : ℕ) → 0 < a →
+    IsDemandedAt level events place cell a b → PrecedesCausally events a b ⊎ (PrecedesCausally events a b → ⊥)
+past_tells level events pasts orderly are place cell a b positive d =
+    let second = source_small events orderly place b d.reader (demand_read level events place cell a b d) in
+    let count = are.count in
+    elim (slice_get_cases pasts.rows.items b).1 [
+      | inl found ↦
+          let past : Past = found.0 in
+          let written = (writes_later events a cell positive d.writes).1 in
+          let both = (are.each b past found.2).exact written.session a written.write.start written.write.starts in
+          elim (cases_lt (get_or past.tops.items written.session 0) a) [
+            | inl above ↦ inr (λ chain. let h = both.1 chain in absurd (omega arith))
+            | inr upto ↦ inl (both.0 (omega arith))
+          ]
+      | inr none ↦ absurd (let h = none.0 in omega arith)
+    ]
 
 -- ---- orders
 
 -- an order that extends the pairs that are listed meets the history at the level
 pub meets_from_listed :
-    (level : Level) (events : List Event) (edges : List Edge) (order : List ℕ) → IsOrderly events →
+    (level : Level) (events : List Event) (pasts : Pasts) (edges : List Edge) (order : List ℕ) → IsOrderly events → ArePasts events pasts →
     IsPairList (IsListed level events) (begun events + 1) edges → IsOrder (begun events + 1) edges order → MeetsAt level events order
-meets_from_listed level events edges order orderly list is =
+meets_from_listed level events pasts edges order orderly are list is =
     let rises : (a b : ℕ) → IsListed level events a b → place_of order a < place_of order b =
     λ a b f.
     let found = list.whole a b f in
@@ -145,6 +181,12 @@ meets_from_listed level events edges order orderly list is =
     in
     let sessions : (a b : ℕ) → IsSessionOrdered events a b → place_of order a < place_of order b =
     λ a b so. sessions_rise events (λ (n : ℕ). place_of order n) (λ x y next. rises x y (inl next)) b a b (omega arith) so
+    in
+    let direct : (a b : ℕ) → Precedes events a b → place_of order a < place_of order b =
+    λ a b p. elim p [
+      | inl so ↦ sessions a b so
+      | inr wr ↦ rises a b (listed_read level events wr.place a b (read_from_reads events b wr.place wr.cell a wr.reads))
+    ]
     in
     let some : 0 < length order = let h = found_once (begun events + 1) order is.holds 0 (omega arith) in omega arith in
     let small : get_or order 0 0 < begun events + 1 =
@@ -162,12 +204,12 @@ meets_from_listed level events edges order orderly list is =
               absurd (omega arith)
         ]
       ];
-      precedes = λ a b p. elim p [
-        | inl so ↦ sessions a b so
-        | inr wr ↦ rises a b (listed_read level events wr.place a b (read_from_reads events b wr.place wr.cell a wr.reads))
-      ];
+      precedes = direct;
       demands = λ place cell a b d. elim (cases_lt 0 a) [
-        | inl positive ↦ rises a b (listed_demand level events place cell a b positive d)
+        | inl positive ↦ elim (past_tells level events pasts orderly are place cell a b positive d) [
+          | inl causal ↦ chained_rises (Precedes events) (λ (n : ℕ). place_of order n) direct a b causal
+          | inr apart ↦ rises a b (listed_demand level events place cell a b positive apart d)
+        ]
         | inr none ↦
             let initial : a ≡ 0 = omega arith in
             let other = d.other in
@@ -219,10 +261,10 @@ places_wider size R S order wider holds rises places = record {
 }
 
 pub order_at :
-    (level : Level) (events : List Event) (edges : List Edge) (order : List ℕ) → IsOrderly events →
+    (level : Level) (events : List Event) (pasts : Pasts) (edges : List Edge) (order : List ℕ) → IsOrderly events → ArePasts events pasts →
     IsPairList (IsListed level events) (begun events + 1) edges → HasLeastOrder (begun events + 1) edges order → IsOrderAt level events order
-order_at level events edges order orderly list least =
-    let meets : MeetsAt level events order = meets_from_listed level events edges order orderly list least.is.extends in
+order_at level events pasts edges order orderly are list least =
+    let meets : MeetsAt level events order = meets_from_listed level events pasts edges order orderly are list least.is.extends in
     record {
       meets = meets;
       least = places_wider (begun events + 1) (HasEdge edges) (IsAsked level events) order

@@ -1,9 +1,10 @@
 -- The steps of the loops that list pairs.
 use Rattle.std.proofs.Common.{◌≡◌, ℕ, ◌+◌, ◌<◌, ◌≤◌, List, [], Some, true, false, length, get_or, take, arith, refl, ap, sym, ◌∙◌, subst, inl, inr, ◌⊎◌}
-use Rattle.std.specs.List.{slice_get}
+use Rattle.std.specs.List.{slice_get, Contains}
 use Rattle.std.proofs.lemmas.Option.{slice_get_within, get_or_from_slice_get}
 use Rattle.std.proofs.lemmas.List.Sums.{count_by_more_yes, count_by_more_no}
 use Rattle.std.proofs.lemmas.Bool.{cases_lt, cases_eq, false≢true}
+use Rattle.txn_buffer.proofs.Lists.{at_contains}
 use Rattle.graph_base.specs.declared.Edge.{Edge}
 use Rattle.cell_base.specs.declared.level.Level.{Level}
 use Rattle.history_core.specs.declared.event.Event.{Event}
@@ -19,7 +20,7 @@ use Rattle.order_test.specs.Settled.{IsOrderly}
 use Rattle.order_test.specs.Sights.{IsReadAt, IsReading, origin_of}
 use Rattle.order_test.proofs.SearchLemmas.{one_reader}
 use Rattle.cycle_report.specs.Reasons.{IsNext, IsReadFromAt}
-use Rattle.cycle_report.specs.Views.{DemandsAt, IsListedAt, IsListedBelow, IsListed, IsNextAt, IsNextBelow}
+use Rattle.cycle_report.specs.Views.{IsNews, IsListedAt, IsListedBelow, IsListed, IsNextAt, IsNextBelow}
 use Rattle.cycle_report.proofs.Neighbours.{place_within}
 use Rattle.cycle_report.proofs.Orders.{demand_read, read_place, listed_range}
 use Rattle.cycle_report.proofs.DemandLemmas.{no_read_at, no_demand_at, source_at, demand_source}
@@ -121,63 +122,106 @@ links_whole events n old new end adds =
 
 -- ---- what one read demands
 
+-- one pair, of which the relation holds
 pub demand_one :
-    (level : Level) (events : List Event) (place writer source after : ℕ) (old new : List Edge) → after ≡ source → DemandsAt level events place writer source →
-    AddsPairs (λ a b. (a ≡ writer) × (b ≡ after)) old new → AddsPairs (λ a b. (a ≡ writer) × ((b ≡ source) × DemandsAt level events place a b)) old new
-demand_one level events place writer source after old new same demands adds =
-    adds_as (λ a b. (a ≡ writer) × (b ≡ after)) (λ a b. (a ≡ writer) × ((b ≡ source) × DemandsAt level events place a b)) old new
+    (N : ℕ → ℕ → Type 0) (writer source after : ℕ) (old new : List Edge) → after ≡ source → N writer source →
+    AddsPairs (λ a b. (a ≡ writer) × (b ≡ after)) old new → AddsPairs (λ a b. (a ≡ writer) × ((b ≡ source) × N a b)) old new
+demand_one N writer source after old new same holds adds =
+    adds_as (λ a b. (a ≡ writer) × (b ≡ after)) (λ a b. (a ≡ writer) × ((b ≡ source) × N a b)) old new
     (λ a b is. (
       is.0,
-      (
-        is.1 ∙ same,
-        subst (λ (n : ℕ). DemandsAt level events place n b) (sym is.0)
-            (subst (λ (n : ℕ). DemandsAt level events place writer n) (sym (is.1 ∙ same)) demands),
-      ),
+      (is.1 ∙ same, subst (λ (n : ℕ). N n b) (sym is.0) (subst (λ (n : ℕ). N writer n) (sym (is.1 ∙ same)) holds)),
     ))
     (λ a b is. (is.0, is.1.0 ∙ sym same))
     adds
 
 pub demand_none :
-    (level : Level) (events : List Event) (place writer source : ℕ) (edges : List Edge) → (DemandsAt level events place writer source → ⊥) →
-    AddsPairs (λ a b. (a ≡ writer) × ((b ≡ source) × DemandsAt level events place a b)) edges edges
-demand_none level events place writer source edges none =
-    adds_none (λ a b. (a ≡ writer) × ((b ≡ source) × DemandsAt level events place a b)) edges
-    (λ a b is. none (subst (λ (n : ℕ). DemandsAt level events place n source) is.0 (subst (λ (n : ℕ). DemandsAt level events place a n) is.1.0 is.1.1)))
+    (N : ℕ → ℕ → Type 0) (writer source : ℕ) (edges : List Edge) → (N writer source → ⊥) →
+    AddsPairs (λ a b. (a ≡ writer) × ((b ≡ source) × N a b)) edges edges
+demand_none N writer source edges none =
+    adds_none (λ a b. (a ≡ writer) × ((b ≡ source) × N a b)) edges
+    (λ a b is. none (subst (λ (n : ℕ). N n source) is.0 (subst (λ (n : ℕ). N a n) is.1.0 is.1.1)))
 
--- the demands of the writers from 1 up to n
-pub record IsDemandUpTo (level : Level) (events : List Event) (place n first second : ℕ) : Type 0 where
-  pub positive : 0 < first
+pub news_source : (level : Level) (events : List Event) (place : ℕ) (event : Event) (a b : ℕ) → slice_get events place ≡ Some event → IsNews level events place a b →
+    b ≡ origin_of event
+news_source level events place event a b is news = demand_source level events place event a b is news.demands
+
+-- the news of the writers from 1 up to n
+pub record IsNewsUpTo (level : Level) (events : List Event) (place n first second : ℕ) : Type 0 where
   pub upto : first ≤ n
-  pub demands : DemandsAt level events place first second
+  pub news : IsNews level events place first second
 
-pub demands_none : (level : Level) (events : List Event) (place : ℕ) (edges : List Edge) → AddsPairs (IsDemandUpTo level events place 0) edges edges
+pub demands_none : (level : Level) (events : List Event) (place : ℕ) (edges : List Edge) → AddsPairs (IsNewsUpTo level events place 0) edges edges
 demands_none level events place edges =
-    adds_none (IsDemandUpTo level events place 0) edges (λ a b is. let h = is.positive in let g = is.upto in absurd (omega arith))
+    adds_none (IsNewsUpTo level events place 0) edges (λ a b is. let h = is.news.positive in let g = is.upto in absurd (omega arith))
 
 pub demands_more :
     (level : Level) (events : List Event) (place : ℕ) (event : Event) (n : ℕ) (old middle new : List Edge) → slice_get events place ≡ Some event →
-    AddsPairs (IsDemandUpTo level events place n) old middle →
-    AddsPairs (λ a b. (a ≡ n + 1) × ((b ≡ origin_of event) × DemandsAt level events place a b)) middle new → AddsPairs (IsDemandUpTo level events place (n + 1)) old new
+    AddsPairs (IsNewsUpTo level events place n) old middle →
+    AddsPairs (λ a b. (a ≡ n + 1) × ((b ≡ origin_of event) × IsNews level events place a b)) middle new → AddsPairs (IsNewsUpTo level events place (n + 1)) old new
 demands_more level events place event n old middle new is before now =
-    adds_then (IsDemandUpTo level events place n) (λ a b. (a ≡ n + 1) × ((b ≡ origin_of event) × DemandsAt level events place a b))
-    (IsDemandUpTo level events place (n + 1)) old middle new
-    (λ a b of. let h = of.upto in record { positive = of.positive; upto = omega arith; demands = of.demands })
-    (λ a b of. let h = of.0 in record { positive = omega arith; upto = omega arith; demands = of.1.1 })
+    adds_then (IsNewsUpTo level events place n) (λ a b. (a ≡ n + 1) × ((b ≡ origin_of event) × IsNews level events place a b))
+    (IsNewsUpTo level events place (n + 1)) old middle new
+    (λ a b of. let h = of.upto in record { upto = omega arith; news = of.news })
+    (λ a b of. let h = of.0 in record { upto = omega arith; news = of.1.1 })
     (λ a b of. elim (cases_eq a (n + 1)) [
-      | inl same ↦ inr (same, (demand_source level events place event a b is of.demands, of.demands))
-      | inr other ↦ let h = of.upto in inl record { positive = of.positive; upto = omega arith; demands = of.demands }
+      | inl same ↦ inr (same, (news_source level events place event a b is of.news, of.news))
+      | inr other ↦ let h = of.upto in inl record { upto = omega arith; news = of.news }
     ])
     before now
 
 pub demands_whole :
-    (level : Level) (events : List Event) (place n : ℕ) (old new : List Edge) → begun events ≤ n → AddsPairs (IsDemandUpTo level events place n) old new →
-    AddsPairs (λ a b. (0 < a) × DemandsAt level events place a b) old new
+    (level : Level) (events : List Event) (place n : ℕ) (old new : List Edge) → begun events ≤ n → AddsPairs (IsNewsUpTo level events place n) old new →
+    AddsPairs (IsNews level events place) old new
 demands_whole level events place n old new end adds =
-    adds_as (IsDemandUpTo level events place n) (λ a b. (0 < a) × DemandsAt level events place a b) old new
-    (λ a b is. (is.positive, is.demands))
+    adds_as (IsNewsUpTo level events place n) (IsNews level events place) old new
+    (λ a b is. is.news)
     (λ a b is.
-    let h : a < begun events + 1 = writer_bounded events a is.1.0 is.1.1.writes in
-    record { positive = is.0; upto = omega arith; demands = is.1 })
+    let h : a < begun events + 1 = writer_bounded events a is.demands.0 is.demands.1.writes in
+    record { upto = omega arith; news = is })
+    adds
+
+-- the news of the first n of the writers
+pub record IsNewsAmong (level : Level) (events : List Event) (place : ℕ) (numbers : List ℕ) (n first second : ℕ) : Type 0 where
+  pub at : ℕ
+  pub below : at < n
+  pub is : slice_get numbers at ≡ Some first
+  pub news : IsNews level events place first second
+
+pub among_none : (level : Level) (events : List Event) (place : ℕ) (numbers : List ℕ) (edges : List Edge) → AddsPairs (IsNewsAmong level events place numbers 0) edges edges
+among_none level events place numbers edges =
+    adds_none (IsNewsAmong level events place numbers 0) edges (λ a b of. let h = of.below in absurd (omega arith))
+
+pub among_more :
+    (level : Level) (events : List Event) (place : ℕ) (event : Event) (numbers : List ℕ) (n number : ℕ) (old middle new : List Edge) →
+    slice_get events place ≡ Some event → slice_get numbers n ≡ Some number → AddsPairs (IsNewsAmong level events place numbers n) old middle →
+    AddsPairs (λ a b. (a ≡ number) × ((b ≡ origin_of event) × IsNews level events place a b)) middle new →
+    AddsPairs (IsNewsAmong level events place numbers (n + 1)) old new
+among_more level events place event numbers n number old middle new is here before now =
+    adds_then (IsNewsAmong level events place numbers n) (λ a b. (a ≡ number) × ((b ≡ origin_of event) × IsNews level events place a b))
+    (IsNewsAmong level events place numbers (n + 1)) old middle new
+    (λ a b of. let h = of.below in record { at = of.at; below = omega arith; is = of.is; news = of.news })
+    (λ a b of. record { at = n; below = omega arith; is = here ∙ ap (λ (k : ℕ). Some k) (sym of.0); news = of.1.1 })
+    (λ a b of. elim (below_cases of.at n of.below) [
+      | inl less ↦ inl record { at = of.at; below = less; is = of.is; news = of.news }
+      | inr same ↦
+          let both : Some number ≡ Some a = sym here ∙ ap (λ (k : ℕ). slice_get numbers k) (sym same) ∙ of.is in
+          let one : a ≡ number = cc in
+          inr (one, (news_source level events place event a b is of.news, of.news))
+    ])
+    before now
+
+pub among_whole :
+    (level : Level) (events : List Event) (place : ℕ) (numbers : List ℕ) (n : ℕ) (old new : List Edge) → length numbers ≤ n →
+    ((a b : ℕ) → IsNews level events place a b → Contains numbers a) → AddsPairs (IsNewsAmong level events place numbers n) old new →
+    AddsPairs (IsNews level events place) old new
+among_whole level events place numbers n old new end whole adds =
+    adds_as (IsNewsAmong level events place numbers n) (IsNews level events place) old new
+    (λ a b is. is.news)
+    (λ a b is.
+    let found = at_contains numbers a (whole a b is) in
+    let h = slice_get_within numbers found.0 a found.1 in
+    record { at = found.0; below = omega arith; is = found.1; news = is })
     adds
 
 -- ---- the pairs of one event
@@ -185,9 +229,9 @@ demands_whole level events place n old new end adds =
 pub read_then :
     (level : Level) (events : List Event) (place : ℕ) (event : Event) (source reader : ℕ) (old middle new : List Edge) → IsOrderly events →
     IsReadAt events place event reader → IsReading event → source ≡ origin_of event → AddsPairs (λ a b. (a ≡ source) × (b ≡ reader)) old middle →
-    AddsPairs (λ a b. (0 < a) × DemandsAt level events place a b) middle new → AddsPairs (IsListedAt level events place) old new
+    AddsPairs (IsNews level events place) middle new → AddsPairs (IsListedAt level events place) old new
 read_then level events place event source reader old middle new orderly read reading from before now =
-    adds_then (λ a b. (a ≡ source) × (b ≡ reader)) (λ a b. (0 < a) × DemandsAt level events place a b) (IsListedAt level events place) old middle new
+    adds_then (λ a b. (a ≡ source) × (b ≡ reader)) (IsNews level events place) (IsListedAt level events place) old middle new
     (λ a b is. inl (
     subst (λ (n : ℕ). IsReadFromAt events place n b) (sym is.0)
     (subst (λ (n : ℕ). IsReadFromAt events place source n) (sym is.1)
@@ -197,7 +241,7 @@ read_then level events place event source reader old middle new orderly read rea
       | inl other ↦
           let one = one_reader events orderly b reader place other.event event other.of_reader read.of in
           inl (source_at events place event a b read.of.is other ∙ sym from, one.1)
-      | inr demand ↦ inr demand
+      | inr news ↦ inr news
     ])
     before now
 
@@ -208,7 +252,7 @@ event_none level events place event edges is none =
     adds_none (IsListedAt level events place) edges
     (λ a b listed. elim listed [
       | inl read ↦ no_read_at events place event a b is none read
-      | inr demand ↦ no_demand_at level events place event a b is none demand.1
+      | inr news ↦ no_demand_at level events place event a b is none news.demands
     ])
 
 -- ---- the pairs of all events
@@ -231,7 +275,8 @@ events_more level events n old middle new before now =
 
 listed_place : (level : Level) (events : List Event) (place a b : ℕ) → IsListedAt level events place a b → place < length events
 listed_place level events place a b (inl read) = read_place events place a b read
-listed_place level events place a b (inr (positive, (cell, d))) = read_place events place b d.reader (demand_read level events place cell a b d)
+listed_place level events place a b (inr news) =
+    read_place events place b news.demands.1.reader (demand_read level events place news.demands.0 a b news.demands.1)
 
 pub events_whole :
     (level : Level) (events : List Event) (n : ℕ) (old new : List Edge) → length events ≤ n → AddsPairs (IsListedBelow level events n) old new →

@@ -127,6 +127,10 @@ listed_demanded level events a b apart unread (inr below) = at below.place below
   where
     at : (place : ℕ) → IsListedAt level events place a b → IsNumber events a × ((place : ℕ) × DemandsAt level events place a b)
     at place (inl read) = absurd (unread place read)
-    at place (inr demand) =
-        let h : a < begun events + 1 = writer_bounded events a demand.1.0 demand.1.1.writes in
-        ((demand.0, omega arith), (place, demand.1))
+    at place (inr news) = by news.demands
+      where
+        by : DemandsAt level events place a b → IsNumber events a × ((place : ℕ) × DemandsAt level events place a b)
+        by (cell, d) =
+            let h : a < begun events + 1 = writer_bounded events a cell d.writes in
+            let positive = news.positive in
+            ((positive, omega arith), (place, (cell, d)))

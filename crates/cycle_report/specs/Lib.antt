@@ -2,7 +2,10 @@ pub mod Reasons
 pub mod Judged
 pub mod Owned
 pub mod Pasts
+pub mod Listed
 pub mod Views
 pub mod Firsts
 pub mod Rings
 pub mod Levels
+pub mod Turns
+pub mod Spans

@@ -6,6 +6,7 @@ ghost use Rattle.history_core.specs.Events.{begun};
 ghost use Rattle.history_core.specs.Forced.{IsPairList};
 ghost use Rattle.saturation.specs.Pairs.{AddsPairs};
 ghost use Rattle.cycle_report.specs.Reasons.{IsNext, IsReasonOf};
+ghost use Rattle.cycle_report.specs.Spans.{AreSpans};
 ghost use Rattle.cycle_report.specs.Views.{IsView, IsListed};
 ghost use Rattle.cycle_report.specs.Rings.{IsAnyRing, IsOnce};
 ghost use Rattle.cycle_report.specs.Judged.{IsCycleAt};
@@ -16,10 +17,12 @@ use crate::edges::edge_at;
 use crate::pairs::pairs_of;
 use crate::reasons::reason_of;
 use crate::rings::ring_of;
+use crate::sorting::order_or_cycle;
+use crate::spans::Span;
 use crate::view::View;
 use cell_base::{Level, Memory};
 use graph_base::{Edge, Graph};
-use order_witness::{Verdict, order_or_cycle};
+use order_witness::Verdict;
 use std::alloc::Global;
 
 /// What is found at one level.
@@ -95,14 +98,16 @@ fn cycle_of(
 pub fn found_at(
     alloc: Global,
     view: &View<'_>,
+    spans: &[Span],
     links: &[Edge],
     level: Level,
 ) -> Result<Found, Memory>
     requires view { IsView view.now }
+    requires spans { AreSpans view.now.events.now (begun view.now.events.now + 1) spans.now }
     requires links { AddsPairs (IsNext view.now.events.now) [] links.now }
     ensures { IfOk result (IsFoundAt level view.now.events.now) }
 {
-    let graph = pairs_of(alloc, view, links, level)?;
+    let graph = pairs_of(alloc, view, spans, links, level)?;
     let verdict = order_or_cycle(alloc, &graph)?;
     match verdict {
         Verdict::Order(order) => Ok(Found::Order(order)),

@@ -12,6 +12,7 @@ mod judgement;
 mod judging;
 mod laws;
 mod levels;
+mod listed;
 mod owners;
 mod pairs;
 mod pasts;
@@ -20,6 +21,8 @@ mod records;
 mod rings;
 mod rivals;
 mod sight;
+mod sorting;
+mod spans;
 mod view;
 
 pub use judgement::{Judgement, Reason, Step};

@@ -84,7 +84,7 @@ fn precedes(view: &View<'_>, writer: u32, reader: u32) -> bool
 }
 
 /// The causal past of the transaction.
-fn past_of<'a>(pasts: &'a Pasts, events: &[Event], number: u32) -> &'a Past
+pub fn past_of<'a>(pasts: &'a Pasts, events: &[Event], number: u32) -> &'a Past
     requires pasts { ArePasts events.now pasts.now }
     requires number { number ≤ begun events.now }
     ensures { IsPastOf events.now pasts.now.width number result.now }
@@ -93,7 +93,7 @@ fn past_of<'a>(pasts: &'a Pasts, events: &[Event], number: u32) -> &'a Past
 }
 
 /// The last transaction of the session in the past.
-fn top_of(past: &Past, session: usize) -> u32
+pub fn top_of(past: &Past, session: usize) -> u32
     ensures { result ≡ slice_index past.now.tops.items session }
 {
     if session >= past.tops.len() {
@@ -103,7 +103,7 @@ fn top_of(past: &Past, session: usize) -> u32
 }
 
 /// Whether the writer is in the causal past of the reader.
-fn precedes_causally(view: &View<'_>, writer: u32, reader: u32) -> bool
+pub fn precedes_causally(view: &View<'_>, writer: u32, reader: u32) -> bool
     requires view { IsView view.now }
     requires writer { IsNumber view.now.events.now writer }
     requires reader { reader ≤ begun view.now.events.now }

@@ -5,15 +5,18 @@ ghost use Rattle.order_test.specs.Sights.{IsNumber, IsReadAt, IsReading};
 ghost use Rattle.cycle_report.specs.Views.{IsView};
 
 use crate::pasts::Pasts;
+use cell_writers::CellWriters;
 use history_core::{Event, Txn};
 
-/// The events of a history, beside each of them its transaction, and of each transaction its record and its causal past.
+/// The events of a history, beside each of them its transaction, of each transaction its record and its causal past, and the committed writers of
+/// each cell.
 #[derive(Clone, Copy, Debug)]
 pub struct View<'a> {
     pub events: &'a [Event],
     pub owners: &'a [u32],
     pub txns: &'a [Txn],
     pub pasts: &'a Pasts,
+    pub writers: &'a CellWriters,
 }
 
 /// The record of the transaction.

@@ -10,6 +10,7 @@ order_or_cycle-requires c =
 
 pub returns-in-Order : goal.returns-in-Order
 returns-in-Order c =
-    order_at c.args.level c.args.view.now.events.now c.in_ok-graph.graph.edges.items c.in-Order.order.items c.requires.view.orderly c.in_ok-graph.ensures.pairs
+    order_at c.args.level c.args.view.now.events.now c.args.view.now.pasts.now c.in_ok-graph.graph.edges.items c.in-Order.order.items c.requires.view.orderly
+    c.requires.view.pasts_are c.in_ok-graph.ensures.pairs
     (subst (λ (n : ℕ). HasLeastOrder n c.in_ok-graph.graph.edges.items c.in-Order.order.items) c.in_ok-graph.ensures.size
     (rw c.in-Order.is at c.in_ok-verdict.ensures))
