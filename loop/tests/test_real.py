@@ -81,7 +81,8 @@ class Explored(Rooms):
         setup = self.write("notes.sql", SETUP + "SELECT 1 / 0;")
         status, said, _ = loop("explore", "--level", "rc", "--setup", setup, "--", *NOTES, cwd=self.room)
         self.assertEqual(status, 3)
-        self.assertIn("the first run failed: server: it ended with status 1 before it listened: setup: statement 3 failed: 22012", said)
+        cause = "serve: --setup %s: statement 3 failed: 22012 division by zero" % setup
+        self.assertIn("the first run failed: server: it ended with status 1 before it listened: " + cause, said)
 
     def test_a_command_that_leaves_its_sessions_open(self):
         script = "%s & sleep 0.2; exec %s" % (" ".join("'%s'" % it for it in [sys.executable, "-c", OPEN]), " ".join(NOTES))
